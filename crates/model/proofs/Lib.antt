@@ -1,0 +1,4 @@
+pub mod Any
+pub mod Least
+pub mod Listed
+pub mod Paired

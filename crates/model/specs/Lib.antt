@@ -1,0 +1,5 @@
+pub mod Meaning
+pub mod Limits
+pub mod Lesser
+pub mod Tables
+pub mod Pairs

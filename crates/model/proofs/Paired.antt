@@ -17,6 +17,7 @@ use Rattle.model.specs.Lesser.{lesserOf}
 use Rattle.model.specs.Meaning.{Meaning, Lawful, Least}
 use Rattle.model.specs.Pairs.{paired, firstSteps, secondSteps}
 use Rattle.model.proofs.Least.{least-or}
+use Rattle.model.proofs.Limited.{limited-least}
 
 -- from is the least k with t ≤ k × width + j: what t lies above j, divided by the width and rounded up
 module _ (t j width above from : ℕ) (lt : j < width) (up : above ≡ t - j) (rounded : from ≡ above / width + min 1 (above % width)) where
@@ -75,9 +76,6 @@ below t nb na pos lt =
     let e = div-add-mod' t nb in
     let h = digits-lt {q = t / nb} {m = na} {r = t % nb} {c = nb} lt (mod-below t nb pos) in omega arith
 
-third : (x y z : Bool) → (x && (y && z)) ≡ true → z ≡ true
-third x y z e = and-parts y z (and-parts x (y && z) e .1) .1
-
 module _ (a b : Meaning) (la : Lawful a) (lb : Lawful b) (s : ℕ) (lt : s < paired a b .states) where
   -- a pair with a state has as many as its parts together, and no more than a model may have
   pub whole : (s < a .states * b .states) × (a .states * b .states ≤ 4096) × (paired a b .states ≡ a .states * b .states)
@@ -100,7 +98,8 @@ module _ (a b : Meaning) (la : Lawful a) (lb : Lawful b) (s : ℕ) (lt : s < pai
 
   pub paired-least : (t : ℕ) (q r : Option ℕ) → Least (firstSteps a b s) t q → Least (secondSteps a b s) t r → Least (paired a b .step s) t (lesserOf q r)
   paired-least t q r l k =
-      least-or (firstSteps a b s) (secondSteps a b s) (paired a b .step s) t q r
-      (λ u h e. or-cases (firstSteps a b s u) (secondSteps a b s u) (third (ltb s (paired a b .states)) (ltb u (paired a b .states)) _ e))
-      (λ u h e. and-from _ _ (lt-ltb _ _ lt) (and-from _ _ (lt-ltb _ _ (first-inside u e)) (or-left _ _ e)))
-      (λ u h e. and-from _ _ (lt-ltb _ _ lt) (and-from _ _ (lt-ltb _ _ (second-inside u e)) (or-right _ _ e))) l k
+      limited-least (paired a b) (λ u. firstSteps a b s u || secondSteps a b s u) s t (paired a b .states) (lesserOf q r) (λ u. refl) refl lt
+      (least-or (firstSteps a b s) (secondSteps a b s) (λ u. ltb u (paired a b .states) && (firstSteps a b s u || secondSteps a b s u)) t q r
+        (λ u h e. or-cases (firstSteps a b s u) (secondSteps a b s u) (and-parts (ltb u (paired a b .states)) _ e .1))
+        (λ u h e. and-from _ _ (lt-ltb _ _ (first-inside u e)) (or-left _ _ e))
+        (λ u h e. and-from _ _ (lt-ltb _ _ (second-inside u e)) (or-right (firstSteps a b s u) _ e)) l k)

@@ -2,4 +2,5 @@
 pub mod interface;
 mod lesser;
 pub mod pair;
+pub mod pool;
 pub mod table;

@@ -1,8 +1,11 @@
-use mathlib.Core.Path.{_∙_}
+use mathlib.Core.Path.{refl, _∙_, subst}
+use mathlib.Core.Bool.{_&&_}
 use native.Mathlib.Omega.{arith}
+use lib.Dec.{ltb}
 use Rattle.std.proofs.shelf.Lists.{take-all}
-use Rattle.std.proofs.shelf.Ways.{tells}
-use Rattle.model.proofs.Least.{least-same}
+use Rattle.model.specs.Meaning.{Least}
+use Rattle.model.specs.Tables.{any, isStep, listed}
+use Rattle.model.proofs.Limited.{limited-least}
 use Rattle.model.proofs.Listed.{entry-counts, entry-counts-not}
 use Rattle.model.proofs.table.TableModel.least_step.Needs as need
 use Rattle.model.proofs.table.TableModel.least_step.Needs.{then-e-s·then-e-t·then-e-n, else-e-s, else-e-s·by·then-e-s·then-e-t·else-e-n, else-e-s·by·then-e-s·else-e-t, else-e-s·by·else-e-s}
@@ -24,4 +27,6 @@ loop-e-again c =
 pub returns : need.returns
 returns c =
     let all = take-all (c .loop-e .e-index) (c .args .self .now .steps .now) (c .loop-e-test .left) in
-    least-same _ _ (c .args .t) (c .loop-e .least) (λ u h e. grind (arith, tells)) (λ u h e. grind (arith, tells)) (c .loop-e .inv)
+    limited-least (listed (c .args .self .now .states) (c .args .self .now .props) (c .args .self .now .steps .now) (c .args .self .now .holdings .now))
+    (λ u. any (isStep (c .args .s) u) (c .args .self .now .steps .now)) (c .args .s) (c .args .t) (c .size-n .result .states) (c .loop-e .least) (λ u. refl) (c .size-n .ensures .states) (c .if-s-n .left)
+    (subst (λ es. Least (λ u. ltb u (c .size-n .result .states) && any (isStep (c .args .s) u) es) (c .args .t) (c .loop-e .least)) all (c .loop-e .inv))

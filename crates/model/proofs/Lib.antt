@@ -6,3 +6,4 @@ pub mod Limited
 pub mod Listed
 pub mod Paired
 pub mod Pooled
+pub mod Walked

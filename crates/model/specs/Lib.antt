@@ -5,3 +5,6 @@ pub mod Below
 pub mod Tables
 pub mod Pools
 pub mod Pairs
+pub mod Faults
+pub mod Walkable
+pub mod Laws

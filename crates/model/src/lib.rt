@@ -1,5 +1,8 @@
-//! Finite models: one interface, and what stands behind it.
+//! Finite models: one interface, what stands behind it, and the check that a model can be walked.
+pub mod check;
+pub mod fault;
 pub mod interface;
+pub mod laws;
 mod lesser;
 pub mod pair;
 pub mod pool;

@@ -1,0 +1,4 @@
+pub mod Readings
+pub mod Grades
+pub mod Lawfulness
+pub mod Digits

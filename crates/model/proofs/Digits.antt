@@ -23,7 +23,7 @@ pub equal-by-digits : (k s u : ℕ) → s < 4 ^ k → u < 4 ^ k → ((j : ℕ) �
 equal-by-digits zero s u hs hu same = omega arith
 equal-by-digits (suc k) s u hs hu same =
     let q = equal-by-digits k (s / 4) (u / 4) (quotient-below k s hs) (quotient-below k u hu)
-      (λ j h. sym (higher j s) ∙ same (suc j) (omega arith) ∙ higher j u) in
+    (λ j h. sym (higher j s) ∙ same (suc j) (omega arith) ∙ higher j u) in
     let r : s % 4 ≡ u % 4 = sym (lowest s) ∙ same 0 (omega arith) ∙ lowest u in omega arith
 
 -- numbers of k digits that differ in digit i alone
@@ -31,10 +31,10 @@ pub differ-by-one : (k i s u : ℕ) → i < k → s < 4 ^ k → u < 4 ^ k → ((
 differ-by-one zero i s u h hs hu same = absurd (omega arith)
 differ-by-one (suc k) zero s u h hs hu same =
     let q = equal-by-digits k (s / 4) (u / 4) (quotient-below k s hs) (quotient-below k u hu)
-      (λ j h. sym (higher j s) ∙ same (suc j) (omega arith) (λ e. omega arith) ∙ higher j u) in omega arith
+    (λ j h. sym (higher j s) ∙ same (suc j) (omega arith) (λ e. omega arith) ∙ higher j u) in omega arith
 differ-by-one (suc k) (suc i) s u h hs hu same =
     let q = differ-by-one k i (s / 4) (u / 4) (omega arith) (quotient-below k s hs) (quotient-below k u hu)
-      (λ j h ne. sym (higher j s) ∙ same (suc j) (omega arith) (λ e. ne (omega arith)) ∙ higher j u) in
+    (λ j h ne. sym (higher j s) ∙ same (suc j) (omega arith) (λ e. ne (omega arith)) ∙ higher j u) in
     let r : s % 4 ≡ u % 4 = sym (lowest s) ∙ same 0 (omega arith) (λ e. omega arith) ∙ lowest u in
     rw (higher i s, higher i u, scaled (digit i (s / 4)) i, scaled (digit i (u / 4)) i) (omega arith)
 

@@ -27,9 +27,11 @@ least-or P Q R t None (Some v) back f g l k =
     (k .0, g v (k .0) (k .1), λ u h lt e. ⊎-elim (l u h) (k .2 u h lt) (back u h e))
 least-or P Q R t (Some w) None back f g l k =
     (l .0, f w (l .0) (l .1), λ u h lt e. ⊎-elim (l .2 u h lt) (k u h) (back u h e))
-least-or P Q R t (Some w) (Some v) back f g l k =
-    ( omega arith, passes-min R w v (f w (l .0) (l .1)) (g v (k .0) (k .1))
-    , λ u h lt e. ⊎-elim (l .2 u h (omega arith)) (k .2 u h (omega arith)) (back u h e) )
+least-or P Q R t (Some w) (Some v) back f g l k = (
+  omega arith,
+  passes-min R w v (f w (l .0) (l .1)) (g v (k .0) (k .1)),
+  λ u h lt e. ⊎-elim (l .2 u h (omega arith)) (k .2 u h (omega arith)) (back u h e),
+)
 
 -- there is one least number, or none
 pub least-one : (P : ℕ → Bool) (t : ℕ) (q r : Option ℕ) → Least P t q → Least P t r → q ≡ r

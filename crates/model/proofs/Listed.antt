@@ -39,12 +39,12 @@ module _ (es : List Step) (n s i : ℕ) (lt : i < length es) where
   entry-counts t r r′ e f h b l =
       subst (Least (passed (i + 1)) t) (sym e)
       (least-or (passed i) (eqb (entry .to)) (passed (i + 1)) t r (Some (entry .to))
-        (λ u _ q. ⊎-elim inl (λ x. inr (eq-eqb (entry .to) u (x .2))) (back u q))
-        (λ u _ q. on u q) (λ u _ q. new u f b (eqb-true (entry .to) u q)) l
-        (h, eq-eqb (entry .to) (entry .to) refl, λ v hv less q. let z = eqb-true (entry .to) v q in omega arith))
+      (λ u _ q. ⊎-elim inl (λ x. inr (eq-eqb (entry .to) u (x .2))) (back u q))
+      (λ u _ q. on u q) (λ u _ q. new u f b (eqb-true (entry .to) u q)) l
+      (h, eq-eqb (entry .to) (entry .to) refl, λ v hv less q. let z = eqb-true (entry .to) v q in omega arith))
 
   pub entry-counts-not : (t : ℕ) (r r′ : Option ℕ) → r′ ≡ r → (entry .from ≡ s → t ≤ entry .to → entry .to < n → ⊥) → Least (passed i) t r → Least (passed (i + 1)) t r′
   entry-counts-not t r r′ e out l =
       subst (Least (passed (i + 1)) t) (sym e)
       (least-same (passed i) (passed (i + 1)) t r (λ u _ q. on u q)
-        (λ u h q. ⊎-elim (λ x. x) (λ x. absurd (out (x .1) (omega (arith, x)) (omega (arith, x)))) (back u q)) l)
+      (λ u h q. ⊎-elim (λ x. x) (λ x. absurd (out (x .1) (omega (arith, x)) (omega (arith, x)))) (back u q)) l)

@@ -26,8 +26,8 @@ module _ (t j width above from : ℕ) (lt : j < width) (up : above ≡ t - j) (r
       let d = div-add-mod' above width in let m = mod-below above width (omega arith) in
       ⊎-elim
       (λ (z : 0 < above % width).
-        let q = mul-le-mul-right {m = above / width + 1} {n = k} width (omega arith) in
-        let e = add-mul (above / width) 1 width in let o = one-mul width in omega arith)
+      let q = mul-le-mul-right {m = above / width + 1} {n = k} width (omega arith) in
+      let e = add-mul (above / width) 1 width in let o = one-mul width in omega arith)
       (λ (z : above % width ≤ 0). let q = mul-le-mul-right {m = above / width} {n = k} width (omega arith) in omega arith)
       (cases-lt 0 (above % width))
 
@@ -44,11 +44,13 @@ module _ (t j width above from : ℕ) (lt : j < width) (up : above ≡ t - j) (r
   least-quotient passes None l =
       λ u h e. let x = and-parts (eqb (u % width) j) (passes (u / width)) e in
       let m = eqb-true _ _ (x .0) in let d = div-add-mod' u width in l (u / width) (reached (u / width) (omega arith)) (x .1)
-  least-quotient passes (Some k) l =
-      ( reaches k (l .0), simp (mod-mul-add k width j lt, div-mul-add k width j lt, l .1, eq-eqb j j refl)
-      , λ v h less e. let x = and-parts (eqb (v % width) j) (passes (v / width)) e in
+  least-quotient passes (Some k) l = (
+    reaches k (l .0),
+    simp (mod-mul-add k width j lt, div-mul-add k width j lt, l .1, eq-eqb j j refl),
+    λ v h less e. let x = and-parts (eqb (v % width) j) (passes (v / width)) e in
         let m = eqb-true _ _ (x .0) in let d = div-add-mod' v width in
-        l .2 (v / width) (reached (v / width) (omega arith)) (lt-of-mul-lt-mul-right width (omega arith)) (x .1) )
+        l .2 (v / width) (reached (v / width) (omega arith)) (lt-of-mul-lt-mul-right width (omega arith)) (x .1),
+  )
 
 -- the least state with quotient i whose remainder passes
 module _ (t i width from : ℕ) (up : from ≡ t - i * width) where
@@ -58,11 +60,13 @@ module _ (t i width from : ℕ) (up : from ≡ t - i * width) where
       let same : u / width * width ≡ i * width = ap (λ n. n * width) (eqb-true _ _ (x .0)) in let d = div-add-mod' u width in
       l (u % width) (omega arith) (x .1)
   least-remainder passes below (Some k) l =
-      let lt = below k (l .1) in
-      ( omega (arith, l .0), simp (mod-mul-add i width k lt, div-mul-add i width k lt, l .1, eq-eqb i i refl)
-      , λ v h less e. let x = and-parts (eqb (v / width) i) (passes (v % width)) e in
-        let same : v / width * width ≡ i * width = ap (λ n. n * width) (eqb-true _ _ (x .0)) in let d = div-add-mod' v width in
-        l .2 (v % width) (omega arith) (omega arith) (x .1) )
+      let lt = below k (l .1) in (
+        omega (arith, l .0),
+        simp (mod-mul-add i width k lt, div-mul-add i width k lt, l .1, eq-eqb i i refl),
+        λ v h less e. let x = and-parts (eqb (v / width) i) (passes (v % width)) e in
+            let same : v / width * width ≡ i * width = ap (λ n. n * width) (eqb-true _ _ (x .0)) in let d = div-add-mod' v width in
+            l .2 (v % width) (omega arith) (omega arith) (x .1),
+      )
 
 -- a state of the first part leaves room for one whole row of the second's
 pub row-fits : (s na nb : ℕ) → s < na * nb → na * nb ≤ 4096 → 0 < nb → s / nb * nb + nb ≤ 4096
@@ -100,6 +104,6 @@ module _ (a b : Meaning) (la : Lawful a) (lb : Lawful b) (s : ℕ) (lt : s < pai
   paired-least t q r l k =
       limited-least (paired a b) (λ u. firstSteps a b s u || secondSteps a b s u) s t (paired a b .states) (lesserOf q r) (λ u. refl) refl lt
       (least-or (firstSteps a b s) (secondSteps a b s) (λ u. ltb u (paired a b .states) && (firstSteps a b s u || secondSteps a b s u)) t q r
-        (λ u h e. or-cases (firstSteps a b s u) (secondSteps a b s u) (and-parts (ltb u (paired a b .states)) _ e .1))
-        (λ u h e. and-from _ _ (lt-ltb _ _ (first-inside u e)) (or-left _ _ e))
-        (λ u h e. and-from _ _ (lt-ltb _ _ (second-inside u e)) (or-right (firstSteps a b s u) _ e)) l k)
+      (λ u h e. or-cases (firstSteps a b s u) (secondSteps a b s u) (and-parts (ltb u (paired a b .states)) _ e .1))
+      (λ u h e. and-from _ _ (lt-ltb _ _ (first-inside u e)) (or-left _ _ e))
+      (λ u h e. and-from _ _ (lt-ltb _ _ (second-inside u e)) (or-right (firstSteps a b s u) _ e)) l k)

@@ -65,8 +65,8 @@ module _ (k g : ℕ) (x : Thread) (i s e : ℕ) (turned : e ≡ cond (holder x (
     leads-only v h =
         let p = parts v h in
         let d = differ-by-one k i s v lt hs (p .0) (λ j hj ne.
-          ⊎-elim (λ (w : eqb j i ≡ true). absurd (ne (eqb-true j i w))) (λ w. eqb-true (digit j s) (digit j v) w)
-          (or-cases (eqb j i) (eqb (digit j s) (digit j v)) (every-decides (λ j. eqb j i || eqb (digit j s) (digit j v)) k .0 (p .1) j hj))) in
+        ⊎-elim (λ (w : eqb j i ≡ true). absurd (ne (eqb-true j i w))) (λ w. eqb-true (digit j s) (digit j v) w)
+        (or-cases (eqb j i) (eqb (digit j s) (digit j v)) (every-decides (λ j. eqb j i || eqb (digit j s) (digit j v)) k .0 (p .1) j hj))) in
         let same : digit i v * 4 ^ i ≡ e * 4 ^ i = ap (λ n. n * 4 ^ i) (p .2) in omega arith
 
     -- and it does lead there, unless the guard forbids it
@@ -75,17 +75,17 @@ module _ (k g : ℕ) (x : Thread) (i s e : ℕ) (turned : e ≡ cond (holder x (
         let m = moves-to x (digit i s) e (omega arith) turned in
         let is = changed-digit i s u e (m .1) made in
         let rest = every-decides (λ j. eqb j i || eqb (digit j s) (digit j u)) k .1 (λ j hj.
-          ⊎-elim (λ (w : j ≡ i). or-left _ _ (eq-eqb j i w)) (λ ne. or-right (eqb j i) _ (eq-eqb _ _ (other-digits i s u e (m .1) made j ne))) (cases-eq j i)) in
+        ⊎-elim (λ (w : j ≡ i). or-left _ _ (eq-eqb j i w)) (λ ne. or-right (eqb j i) _ (eq-eqb _ _ (other-digits i s u e (m .1) made j ne))) (cases-eq j i)) in
         and-from _ _ (lt-ltb _ _ (changed-below k i s u e lt hs (m .1) made))
         (and-from _ _ rest (and-from _ _ (subst (λ n. moves x (digit i s) n ≡ true) (sym is) (m .0)) (grind (arith, tells))))
 
 -- the moves of both threads with one buffer more
 pub buffer-more : (n i t : ℕ) (a b : ℕ → Bool) (p : ℕ → ℕ → Bool) (q ra rb : Option ℕ)
-  → Least (λ u. ltb u n && some i (λ j. p j u)) t q → Least (λ u. ltb u n && a u) t ra → Least (λ u. ltb u n && b u) t rb
-  → ((u : ℕ) → p i u ≡ (a u || b u)) → Least (λ u. ltb u n && some (i + 1) (λ j. p j u)) t (lesserOf (lesserOf q ra) rb)
+    → Least (λ u. ltb u n && some i (λ j. p j u)) t q → Least (λ u. ltb u n && a u) t ra → Least (λ u. ltb u n && b u) t rb
+    → ((u : ℕ) → p i u ≡ (a u || b u)) → Least (λ u. ltb u n && some (i + 1) (λ j. p j u)) t (lesserOf (lesserOf q ra) rb)
 buffer-more n i t a b p q ra rb l la lb split =
     subst (λ m. Least (λ u. ltb u n && some m (λ j. p j u)) t (lesserOf (lesserOf q ra) rb)) (sym (add-one i))
     (least-or (λ u. ltb u n && (a u || some i (λ j. p j u))) (λ u. ltb u n && b u) _ t (lesserOf q ra) rb
-      (λ u h e. let sp = split u in grind (arith, tells)) (λ u h e. let sp = split u in grind (arith, tells)) (λ u h e. let sp = split u in grind (arith, tells))
-      (least-or (λ u. ltb u n && some i (λ j. p j u)) (λ u. ltb u n && a u) _ t q ra
-        (λ u h e. grind (arith, tells)) (λ u h e. grind (arith, tells)) (λ u h e. grind (arith, tells)) l la) lb)
+    (λ u h e. let sp = split u in grind (arith, tells)) (λ u h e. let sp = split u in grind (arith, tells)) (λ u h e. let sp = split u in grind (arith, tells))
+    (least-or (λ u. ltb u n && some i (λ j. p j u)) (λ u. ltb u n && a u) _ t q ra
+    (λ u h e. grind (arith, tells)) (λ u h e. grind (arith, tells)) (λ u h e. grind (arith, tells)) l la) lb)

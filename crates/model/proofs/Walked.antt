@@ -22,10 +22,10 @@ use Rattle.model.specs.declared.fault.ModelFault.the-variants.{NoStates, DeadE
 use Rattle.model.proofs.Below.{some-decides}
 use Rattle.model.proofs.Least.{least-one}
 
--- where a least step was found there is one, and where none was there is none
-pub found-step : (m : Meaning) (s : ℕ) (r : Option ℕ) → Least (m .step s) 0 r → isSome r ≡ true → HasStep m s
-found-step m s (Some t) l e = (t, l .1)
-found-step m s None l e = absurd (both-ways false refl e)
+-- where a least step was found there is one, and where none was from 0 on there is none
+pub found-step : (m : Meaning) (s t : ℕ) (r : Option ℕ) → Least (m .step s) t r → isSome r ≡ true → HasStep m s
+found-step m s t (Some u) l e = (u, l .1)
+found-step m s t None l e = absurd (both-ways false refl e)
 
 pub no-step : (m : Meaning) (s : ℕ) (r : Option ℕ) → Least (m .step s) 0 r → isSome r ≡ false → HasStep m s → ⊥
 no-step m s (Some t) l e h = both-ways true e refl
@@ -34,12 +34,16 @@ no-step m s None l e h = l (h .0) (omega arith) (h .1)
 module _ (passes : ℕ → Bool) where
   extended : (n : ℕ) (r : Option ℕ) (b : Bool) → passes n ≡ b → Least (λ s. ltb s n && passes s) 0 r → Least (λ s. ltb s (suc n) && passes s) 0 (orElse r (cond b (Some n) None))
   extended n (Some k) b e l =
-      let p = and-parts (ltb k n) (passes k) (l .1) in let lt = ltb-true k n (p .0) in
-      (omega arith, and-from (ltb k (suc n)) (passes k) (lt-ltb k (suc n) (omega arith)) (p .1)
-      , λ v h less q. l .2 v h less (and-from (ltb v n) (passes v) (lt-ltb v n (omega arith)) (and-parts (ltb v (suc n)) (passes v) q .1)))
-  extended n None true e l =
-      (omega arith, and-from (ltb n (suc n)) (passes n) (lt-ltb n (suc n) (omega arith)) e
-      , λ v h less q. l v h (and-from (ltb v n) (passes v) (lt-ltb v n less) (and-parts (ltb v (suc n)) (passes v) q .1)))
+      let p = and-parts (ltb k n) (passes k) (l .1) in let lt = ltb-true k n (p .0) in (
+        omega arith,
+        and-from (ltb k (suc n)) (passes k) (lt-ltb k (suc n) (omega arith)) (p .1),
+        λ v h less q. l .2 v h less (and-from (ltb v n) (passes v) (lt-ltb v n (omega arith)) (and-parts (ltb v (suc n)) (passes v) q .1)),
+      )
+  extended n None true e l = (
+    omega arith,
+    and-from (ltb n (suc n)) (passes n) (lt-ltb n (suc n) (omega arith)) e,
+    λ v h less q. l v h (and-from (ltb v n) (passes v) (lt-ltb v n less) (and-parts (ltb v (suc n)) (passes v) q .1)),
+  )
   extended n None false e l = λ u h q. let p = and-parts (ltb u (suc n)) (passes u) q in let lt = ltb-true u (suc n) (p .0) in
       ⊎-elim (λ (z : u < n). l u h (and-from (ltb u n) (passes u) (lt-ltb u n z) (p .1)))
       (λ (z : n ≤ u). let same : u ≡ n = omega arith in both-ways (passes n) e (subst (λ k. passes k ≡ true) same (p .1))) (cases-lt u n)
@@ -69,11 +73,13 @@ module _ (m : Meaning) (law : Lawful m) where
   unfolding stuck
   exact (Err NoStates) c = sym (cond-true (eqb (m .states) 0) (Err (refusal 1 0)) (refusedAt (deadEnd m)) (eq-eqb (m .states) 0 c))
   exact (Err (DeadEnd s)) c =
-      let found = least-one (λ s. ltb s (m .states) && stuck s) 0 (deadEnd m) (Some s) (first-least stuck (m .states))
-        (omega arith, and-from (ltb s (m .states)) (stuck s) (lt-ltb s (m .states) (c .0)) (is-stuck s (c .1))
-        , λ v h less q. steps-on v (c .2 v less) (and-parts (ltb v (m .states)) (stuck v) q .1)) in
+      let found = least-one (λ s. ltb s (m .states) && stuck s) 0 (deadEnd m) (Some s) (first-least stuck (m .states)) (
+        omega arith,
+        and-from (ltb s (m .states)) (stuck s) (lt-ltb s (m .states) (c .0)) (is-stuck s (c .1)),
+        λ v h less q. steps-on v (c .2 v less) (and-parts (ltb v (m .states)) (stuck v) q .1),
+      ) in
       sym (cond-false (eqb (m .states) 0) (Err (refusal 1 0)) (refusedAt (deadEnd m)) (ne-eqb (m .states) 0 (λ e. omega (arith, c .0))) ∙ ap refusedAt found)
   exact (Ok x) c =
       let found = least-one (λ s. ltb s (m .states) && stuck s) 0 (deadEnd m) None (first-least stuck (m .states))
-        (λ u h q. let p = and-parts (ltb u (m .states)) (stuck u) q in steps-on u (c .1 u (ltb-true u (m .states) (p .0))) (p .1)) in
+      (λ u h q. let p = and-parts (ltb u (m .states)) (stuck u) q in steps-on u (c .1 u (ltb-true u (m .states) (p .0))) (p .1)) in
       sym (cond-false (eqb (m .states) 0) (Err (refusal 1 0)) (refusedAt (deadEnd m)) (ne-eqb (m .states) 0 (λ e. omega (arith, c .0))) ∙ ap refusedAt found)

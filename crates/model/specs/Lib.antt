@@ -1,5 +1,6 @@
 pub mod Meaning
 pub mod Limits
+pub mod Lawfulness
 pub mod Lesser
 pub mod Below
 pub mod Tables

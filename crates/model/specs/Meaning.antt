@@ -7,10 +7,10 @@ use Rattle.std.specs.declared.option.Option.the-variants.{Some, None}
 
 -- a finite transition system with labelled states; states and propositions are numbered from 0
 pub record Meaning : Type 0 where
-  pub states : ℕ              -- how many states
-  pub props : ℕ               -- how many propositions
-  pub step : ℕ → ℕ → Bool     -- step s t: state s has a step to state t
-  pub holds : ℕ → ℕ → Bool    -- holds p s: proposition p holds in state s
+  pub states : ℕ  -- how many states
+  pub props : ℕ  -- how many propositions
+  pub step : ℕ → ℕ → Bool  -- step s t: state s has a step to state t
+  pub holds : ℕ → ℕ → Bool  -- holds p s: proposition p holds in state s
 
 -- at most 4,096 states and 64 propositions; steps and holdings only of what exists
 pub record Lawful (m : Meaning) : Type 0 where

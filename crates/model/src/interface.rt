@@ -17,9 +17,15 @@ impl Size {
         ensures props { λ r. ⌜ r .props ≡ kept states props props ⌝ }
     {
         if states <= 4096 && props <= 64 {
-            Size { states: states as u16, props: props as u8 }
+            Size {
+                states: states as u16,
+                props: props as u8,
+            }
         } else {
-            Size { states: 0, props: 0 }
+            Size {
+                states: 0,
+                props: 0,
+            }
         }
     }
 }

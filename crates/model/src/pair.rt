@@ -3,7 +3,8 @@ ghost use mathlib.Core.Path.{_≡_};
 ghost use mathlib.Core.Bool.{_&&_};
 ghost use Prim.Native.Nat.{_+_, _*_, _/_, _%_, _<_, _≤_};
 ghost use lib.Dec.{eqb};
-ghost use Rattle.model.specs.Limits.{kept, limited-lawful};
+ghost use Rattle.model.specs.Lawfulness.{limited-lawful};
+ghost use Rattle.model.specs.Limits.{kept};
 ghost use Rattle.model.specs.Meaning.{Least};
 ghost use Rattle.model.specs.Pairs.{paired, labels};
 use crate::interface::Model;
@@ -27,7 +28,11 @@ fn joined(a: Size, b: Size) -> Size
     ensures props { λ r. ⌜ r .props ≡ kept (a .states * b .states) (labels (a .states * b .states) (a .props + b .props)) (labels (a .states * b .states) (a .props + b .props)) ⌝ }
 {
     let states = a.states as u32 * b.states as u32;
-    let props = if states == 0 { 0 } else { a.props as u16 + b.props as u16 };
+    let props = if states == 0 {
+        0
+    } else {
+        a.props as u16 + b.props as u16
+    };
     Size::within(states, props)
 }
 
@@ -74,7 +79,10 @@ pub impl<A: Model, B: Model> Model for Pair<A, B> as PairModel {
         }
         let i = s / b.states;
         let j = s % b.states;
-        lesser_of(first_steps(&self.first, b.states, i, j, t), second_steps(&self.second, b.states, i, j, t))
+        lesser_of(
+            first_steps(&self.first, b.states, i, j, t),
+            second_steps(&self.second, b.states, i, j, t),
+        )
     }
 
     fn holds(&self, p: u8, s: u16) -> bool {

@@ -2,8 +2,8 @@
 ghost use mathlib.Core.Path.{_≡_};
 ghost use mathlib.Core.Bool.{cond, _&&_};
 ghost use Prim.Native.Nat.{_+_, _-_, _*_, _^_, _<_, _≤_};
-ghost use lib.Dec.{ltb};
-ghost use Rattle.model.specs.Limits.{limited-lawful};
+ghost use lib.Dec.{eqb, ltb};
+ghost use Rattle.model.specs.Lawfulness.{limited-lawful};
 ghost use Rattle.model.specs.Meaning.{Least};
 ghost use Rattle.model.specs.Pools.{digit, share, holder, leads, lawful as lawfulPool, pooled};
 use crate::interface::Model;
@@ -43,7 +43,11 @@ impl Thread {
         requires { ⌜ digit < 4 ⌝ }
         ensures { λ r. ⌜ r ≡ cond (holder self digit) (digit - share self) (digit + share self) ⌝ }
     {
-        if self.holds(digit) { digit - self.share() } else { digit + self.share() }
+        if self.holds(digit) {
+            digit - self.share()
+        } else {
+            digit + self.share()
+        }
     }
 }
 
@@ -77,13 +81,20 @@ fn with_digit(s: u16, i: u8, e: u16) -> u16
 }
 
 impl Pool {
+    /// Does the guard forbid that a buffer's digit becomes `e`?
+    fn forbids(&self, e: u16) -> bool
+        ensures { λ r. ⌜ r ≡ (eqb (now (self .entry) .guard) 1 && eqb e 3) ⌝ }
+    {
+        self.guard == 1 && e == 3
+    }
+
     /// The state to which thread `x` gets from `s` with buffer `i`, if it may and the state is not below `t`.
     fn turn(&self, x: Thread, i: u8, s: u16, t: u16) -> Option<u16>
         requires { ⌜ (i < now self .buffers) × (now self .buffers ≤ 6) × (s < 4 ^ now self .buffers) ⌝ }
         ensures { λ r. ⌜ Least (λ u. ltb u (4 ^ now (self .entry) .buffers) && leads (now (self .entry) .buffers) (now (self .entry) .guard) x i s u) t r ⌝ }
     {
         let e = x.moved(digit_of(s, i));
-        if self.guard == 1 && e == 3 {
+        if self.forbids(e) {
             return None;
         }
         let u = with_digit(s, i, e);
@@ -98,9 +109,15 @@ pub impl Model for Pool as PoolModel {
 
     fn size(&self) -> Size {
         if self.buffers >= 1 && self.buffers <= 6 && self.guard <= 1 {
-            Size { states: 4u16.pow(self.buffers as u32), props: 2 }
+            Size {
+                states: 4u16.pow(self.buffers as u32),
+                props: 2,
+            }
         } else {
-            Size { states: 0, props: 0 }
+            Size {
+                states: 0,
+                props: 0,
+            }
         }
     }
 

@@ -1,7 +1,7 @@
 //! A model given by two lists.
 ghost use mathlib.Core.Path.{_≡_};
 ghost use denote.Ref.{now};
-ghost use Rattle.model.specs.Limits.{limited-lawful};
+ghost use Rattle.model.specs.Lawfulness.{limited-lawful};
 ghost use Rattle.model.specs.Tables.{listed};
 use crate::interface::Model;
 use crate::interface::Size;

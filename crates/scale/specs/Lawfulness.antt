@@ -78,7 +78,7 @@ graded-lawful rs o =
       few-levels = leb-true (length rs) 4 (c .1);
       present = present rs;
       absent = absent rs;
-      rising = λ k l q r h d e. rising rs k l q r (p .1) h d e
+      rising = λ k l q r h d e. rising rs k l q r (p .1) h d e;
     }
 
 pub boolean-lawful : Lawful boolean

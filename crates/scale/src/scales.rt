@@ -1,6 +1,6 @@
 //! The interface that every scale stands behind, and two scales.
 ghost use mathlib.Core.Path.{_≡_};
-ghost use Rattle.scale.specs.Grades.{Grades, Lawful, boolean, fiveValued};
+ghost use Rattle.scale.specs.Grades.{Grades, Lawful, readingAt, boolean, fiveValued};
 ghost use Rattle.scale.specs.Lawfulness.{boolean-lawful, five-lawful};
 use crate::reading::Reading;
 
@@ -20,6 +20,26 @@ pub trait Scale {
         ensures { λ r. ⌜ r ≡ grades (now (self .entry)) .reading level ⌝ };
 }
 
+const BOOLEAN: [Reading; 1] = [Reading::Always];
+
+const FIVE_VALUED: [Reading; 4] = [
+    Reading::Sometime,
+    Reading::InfinitelyOften,
+    Reading::EventuallyAlways,
+    Reading::Always,
+];
+
+/// The reading of a level in a list of the readings of levels 1, 2 and so on.
+fn reading_at(readings: &[Reading], level: u8) -> Option<Reading>
+    ensures { λ r. ⌜ r ≡ readingAt (now (readings .entry)) level ⌝ }
+{
+    let n = level as usize;
+    if n == 0 || n > readings.len() {
+        return None;
+    }
+    Some(readings[n - 1])
+}
+
 /// One level, read *always*.
 #[derive(Clone, Copy, PartialEq, Eq, Debug)]
 pub struct Boolean;
@@ -30,14 +50,11 @@ pub impl Scale for Boolean as BooleanScale {
     ghost lawful = { λ _. boolean-lawful };
 
     fn levels(&self) -> u8 {
-        1
+        BOOLEAN.len() as u8
     }
 
     fn reading(&self, level: u8) -> Option<Reading> {
-        match level {
-            1 => Some(Reading::Always),
-            _ => None,
-        }
+        reading_at(&BOOLEAN, level)
     }
 }
 
@@ -51,16 +68,10 @@ pub impl Scale for FiveValued as FiveValuedScale {
     ghost lawful = { λ _. five-lawful };
 
     fn levels(&self) -> u8 {
-        4
+        FIVE_VALUED.len() as u8
     }
 
     fn reading(&self, level: u8) -> Option<Reading> {
-        match level {
-            1 => Some(Reading::Sometime),
-            2 => Some(Reading::InfinitelyOften),
-            3 => Some(Reading::EventuallyAlways),
-            4 => Some(Reading::Always),
-            _ => None,
-        }
+        reading_at(&FIVE_VALUED, level)
     }
 }

@@ -10,7 +10,7 @@ use Rattle.model.proofs.pair.first_steps.Needs as need
 inside : (g : _) (c : need.In-Some g) → c .in-Some .k * c .args .width + c .args .j ≤ 4096
 inside g c =
     let h = digits-lt {q = c .in-Some .k} {m = g .M·Model .meaning (c .args .part .now) .states} {r = c .args .j} {c = c .args .width}
-      (g .M·Model .lawful (c .args .part .now) .steps-to (c .args .i) (c .in-Some .k) (c .in-Some .ensures tt .1)) (c .pre .0) in
+    (g .M·Model .lawful (c .args .part .now) .steps-to (c .args .i) (c .in-Some .k) (c .in-Some .ensures tt .1)) (c .pre .0) in
     omega arith
 
 pub add-result : need.add-result

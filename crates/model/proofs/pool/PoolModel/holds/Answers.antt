@@ -15,10 +15,10 @@ use Rattle.model.proofs.pool.PoolModel.holds.Needs.{then-p-eq0, else-p-eq0}
 pub returns-then-digit-of-sought : need.returns-then-digit-of-sought
 returns-then-digit-of-sought c =
     let sought : c .if-p-eq0 .sought ≡ cond (eqb (c .args .p) 0) 3 0 =
-      elim (c .if-p-eq0 .came) [ then-p-eq0 w ↦ grind (arith, tells) | else-p-eq0 w ↦ grind (arith, tells) ] in
+    elim (c .if-p-eq0 .came) [ then-p-eq0 w ↦ grind (arith, tells) | else-p-eq0 w ↦ grind (arith, tells) ] in
     let found : some (c .args .self .now .buffers) (λ i. eqb (digit i (c .args .s)) (cond (eqb (c .args .p) 0) 3 0)) ≡ true =
-      some-decides (λ i. eqb (digit i (c .args .s)) (cond (eqb (c .args .p) 0) 3 0)) (c .args .self .now .buffers) .1
-      (c .loop-i .i, c .loop-i-test .taken, eq-eqb _ _ (sym (c .digit-of .ensures) ∙ c .if-digit-of-sought .taken ∙ sought)) in
+    some-decides (λ i. eqb (digit i (c .args .s)) (cond (eqb (c .args .p) 0) 3 0)) (c .args .self .now .buffers) .1
+    (c .loop-i .i, c .loop-i-test .taken, eq-eqb _ _ (sym (c .digit-of .ensures) ∙ c .if-digit-of-sought .taken ∙ sought)) in
     grind (arith, tells)
 
 pub loop-i-again : need.loop-i-again

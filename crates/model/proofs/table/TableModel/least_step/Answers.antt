@@ -13,15 +13,16 @@ use Rattle.model.proofs.table.TableModel.least_step.Needs.{then-e-s·then-e-t�
 pub loop-e-again : need.loop-e-again
 loop-e-again c =
     elim (c .if-e-s .came) [
-      then-e-s·then-e-t·then-e-n w ↦
-        entry-counts (c .args .self .now .steps .now) (c .size-n .result .states) (c .args .s) (c .loop-e .e-index) (c .loop-e-test .taken) (c .args .t)
-        (c .loop-e .least) (c .if-e-s .least) (w .least-is ∙ w .lesser-of-least .ensures) (w .if-e-s .taken) (w .if-e-t .taken) (w .if-e-n .taken) (c .loop-e .inv)
-    | else-e-s w ↦
-        entry-counts-not (c .args .self .now .steps .now) (c .size-n .result .states) (c .args .s) (c .loop-e .e-index) (c .loop-e-test .taken) (c .args .t)
-        (c .loop-e .least) (c .if-e-s .least) (w .least-is) (λ f h b. elim (w .else-e-s .came) [
-            else-e-s·by·then-e-s·then-e-t·else-e-n v ↦ omega (arith, v .if-e-n .left)
-          | else-e-s·by·then-e-s·else-e-t v ↦ omega (arith, v .if-e-t .left)
-          | else-e-s·by·else-e-s v ↦ v .if-e-s .left f ]) (c .loop-e .inv)
+      | then-e-s·then-e-t·then-e-n w ↦
+          entry-counts (c .args .self .now .steps .now) (c .size-n .result .states) (c .args .s) (c .loop-e .e-index) (c .loop-e-test .taken) (c .args .t)
+          (c .loop-e .least) (c .if-e-s .least) (w .least-is ∙ w .lesser-of-least .ensures) (w .if-e-s .taken) (omega (arith, w .if-e-t .taken)) (omega (arith, w .if-e-n .taken)) (c .loop-e .inv)
+      | else-e-s w ↦
+          entry-counts-not (c .args .self .now .steps .now) (c .size-n .result .states) (c .args .s) (c .loop-e .e-index) (c .loop-e-test .taken) (c .args .t)
+          (c .loop-e .least) (c .if-e-s .least) (w .least-is) (λ f h b. elim (w .else-e-s .came) [
+            | else-e-s·by·then-e-s·then-e-t·else-e-n v ↦ omega (arith, v .if-e-n .left)
+            | else-e-s·by·then-e-s·else-e-t v ↦ omega (arith, v .if-e-t .left)
+            | else-e-s·by·else-e-s v ↦ v .if-e-s .left f
+          ]) (c .loop-e .inv)
     ]
 
 pub returns : need.returns

@@ -1,0 +1,14 @@
+//! A tour of the checker, on models small enough to follow by hand. It prints what it makes and what it finds.
+mod models;
+mod scales;
+mod show;
+
+use std::io;
+
+fn main(rt: LibcRuntime) -> io::Result<()> {
+    models::pools(&rt)?;
+    models::tables(&rt)?;
+    models::pairs(&rt)?;
+    models::refusals(&rt)?;
+    scales::both(&rt)
+}

@@ -37,7 +37,7 @@ fn size(states: u16, props: u8) -> Size {
 }
 
 /// Two models side by side.
-fn pair<A, B>(first: A, second: B) -> Pair<A, B> {
+fn beside<A, B>(first: A, second: B) -> Pair<A, B> {
     Pair { first, second }
 }
 
@@ -117,10 +117,10 @@ fn a_pool_moves_one_digit() -> Result<(), Fail> {
 fn pools_pair_up_to_4096_states() -> Result<(), Fail> {
     let three = pool(3, 0);
     let four = pool(4, 0);
-    let pair = pair(three, three);
+    let pair = beside(three, three);
     check_eq(pair.size(), size(4096, 4))?;
     check_eq(walkable(&pair), Ok(()))?;
-    let wide = pair(three, four);
+    let wide = beside(three, four);
     check_eq(wide.size(), NOTHING)?;
     check_eq(walkable(&wide), Err(ModelFault::NoStates))
 }
@@ -189,7 +189,7 @@ fn questions_at_the_edges_of_the_numbers() -> Result<(), Fail> {
     check_eq(pool.least_step(4095, 65535), None)?;
     check_eq(pool.least_step(4096, 0), None)?;
     check(!pool.holds(2, 0) && !pool.holds(0, 4096) && pool.holds(0, 4095))?;
-    let pair = pair(pool, still());
+    let pair = beside(pool, still());
     check_eq(pair.least_step(0, 65535), None)?;
     check_eq(pair.least_step(65535, 0), None)?;
     check(!pair.holds(255, 0) && !pair.holds(0, 65535))
@@ -197,7 +197,7 @@ fn questions_at_the_edges_of_the_numbers() -> Result<(), Fail> {
 
 #[test]
 fn one_part_of_a_pair_steps_while_the_other_waits() -> Result<(), Fail> {
-    let pair = pair(round(), pool(1, 0));
+    let pair = beside(round(), pool(1, 0));
     check_eq(pair.size(), size(8, 3))?;
     check_eq(pair.least_step(1, 0), Some(0)).note("A gives its buffer back")?;
     check_eq(pair.least_step(1, 1), Some(3)).note("B tears the frame")?;
@@ -209,9 +209,9 @@ fn one_part_of_a_pair_steps_while_the_other_waits() -> Result<(), Fail> {
 
 #[test]
 fn a_pair_of_pairs_is_a_pair() -> Result<(), Fail> {
-    let left = pair(round(), round());
-    let right = pair(still(), round());
-    let pile = pair(left, right);
+    let left = beside(round(), round());
+    let right = beside(still(), round());
+    let pile = beside(left, right);
     check_eq(pile.size(), size(8, 3))?;
     check_eq(steps(&pile), 8 * 4).note("three tables go round and one stands still")?;
     check_eq(pile.least_step(7, 0), Some(3))?;
@@ -229,16 +229,16 @@ fn a_part_without_states_leaves_a_pair_without() -> Result<(), Fail> {
         holdings: &FIRST,
     };
     check_eq(empty.size(), size(0, 3))?;
-    check_eq(pair(empty, round()).size(), NOTHING)?;
-    check_eq(pair(round(), empty).size(), NOTHING)?;
+    check_eq(beside(empty, round()).size(), NOTHING)?;
+    check_eq(beside(round(), empty).size(), NOTHING)?;
     let labelled = Table {
         states: 1,
         props: 64,
         steps: &STILL,
         holdings: &[],
     };
-    check_eq(pair(labelled, round()).size(), NOTHING)?;
-    check_eq(pair(labelled, still()).size(), size(1, 64))
+    check_eq(beside(labelled, round()).size(), NOTHING)?;
+    check_eq(beside(labelled, still()).size(), size(1, 64))
 }
 
 #[test]
@@ -258,5 +258,5 @@ fn the_lowest_dead_end_is_named() -> Result<(), Fail> {
     check_eq(ModelFault::DeadEnd(2).number(), 2)?;
     check_eq(ModelFault::DeadEnd(2).value(), 2)?;
     check_eq(ModelFault::NoStates.number(), 1)?;
-    check_eq(walkable(&pair(table, round())), Ok(()))
+    check_eq(walkable(&beside(table, round())), Ok(()))
 }

@@ -1,11 +1,11 @@
 pub mod Meaning
 pub mod Limits
-pub mod Lawfulness
 pub mod Lesser
 pub mod Below
 pub mod Tables
 pub mod Pools
 pub mod Pairs
+pub mod Lawfulness
 pub mod Faults
 pub mod Walkable
 pub mod Laws

@@ -3,7 +3,7 @@ ghost use mathlib.Core.Path.{_≡_};
 ghost use mathlib.Core.Bool.{_&&_};
 ghost use Prim.Native.Nat.{_+_, _*_, _/_, _%_, _<_, _≤_};
 ghost use lib.Dec.{eqb};
-ghost use Rattle.model.specs.Lawfulness.{limited-lawful};
+ghost use Rattle.model.specs.Lawfulness.{paired-lawful};
 ghost use Rattle.model.specs.Limits.{kept};
 ghost use Rattle.model.specs.Meaning.{Least};
 ghost use Rattle.model.specs.Pairs.{paired, labels};
@@ -65,7 +65,7 @@ fn second_steps<M: Model>(part: &M, width: u16, i: u16, j: u16, t: u16) -> Optio
 pub impl<A: Model, B: Model> Model for Pair<A, B> as PairModel {
     ghost meaning = { λ x. paired (A·Model .meaning (x .first)) (B·Model .meaning (x .second)) };
 
-    ghost lawful = { λ x. limited-lawful (A·Model .meaning (x .first) .states * B·Model .meaning (x .second) .states) (labels (A·Model .meaning (x .first) .states * B·Model .meaning (x .second) .states) (A·Model .meaning (x .first) .props + B·Model .meaning (x .second) .props)) _ _ };
+    ghost lawful = { λ x. paired-lawful (A·Model .meaning (x .first)) (B·Model .meaning (x .second)) };
 
     fn size(&self) -> Size {
         joined(self.first.size(), self.second.size())

@@ -3,9 +3,9 @@ ghost use mathlib.Core.Path.{_≡_};
 ghost use mathlib.Core.Bool.{cond, _&&_};
 ghost use Prim.Native.Nat.{_+_, _-_, _*_, _^_, _<_, _≤_};
 ghost use lib.Dec.{eqb, ltb};
-ghost use Rattle.model.specs.Lawfulness.{limited-lawful};
+ghost use Rattle.model.specs.Lawfulness.{pooled-lawful};
 ghost use Rattle.model.specs.Meaning.{Least};
-ghost use Rattle.model.specs.Pools.{digit, share, holder, leads, lawful as lawfulPool, pooled};
+ghost use Rattle.model.specs.Pools.{digit, share, holder, leads, pooled};
 use crate::interface::Model;
 use crate::interface::Size;
 use crate::lesser::lesser_of;
@@ -105,7 +105,7 @@ impl Pool {
 pub impl Model for Pool as PoolModel {
     ghost meaning = { λ x. pooled (x .buffers) (x .guard) };
 
-    ghost lawful = { λ x. limited-lawful (cond (lawfulPool (x .buffers) (x .guard)) (4 ^ x .buffers) 0) (cond (lawfulPool (x .buffers) (x .guard)) 2 0) _ _ };
+    ghost lawful = { λ x. pooled-lawful (x .buffers) (x .guard) };
 
     fn size(&self) -> Size {
         if self.buffers >= 1 && self.buffers <= 6 && self.guard <= 1 {

@@ -1,7 +1,7 @@
 //! A model given by two lists.
 ghost use mathlib.Core.Path.{_≡_};
 ghost use denote.Ref.{now};
-ghost use Rattle.model.specs.Lawfulness.{limited-lawful};
+ghost use Rattle.model.specs.Lawfulness.{listed-lawful};
 ghost use Rattle.model.specs.Tables.{listed};
 use crate::interface::Model;
 use crate::interface::Size;
@@ -36,7 +36,7 @@ pub struct Table<'a> {
 pub impl Model for Table<'_> as TableModel {
     ghost meaning = { λ x. listed (x .states) (x .props) (now (x .steps)) (now (x .holdings)) };
 
-    ghost lawful = { λ x. limited-lawful (x .states) (x .props) _ _ };
+    ghost lawful = { λ x. listed-lawful (x .states) (x .props) (now (x .steps)) (now (x .holdings)) };
 
     fn size(&self) -> Size {
         Size::within(self.states as u32, self.props as u16)

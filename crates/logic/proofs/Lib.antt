@@ -1,0 +1,15 @@
+pub mod Search
+pub mod Sets
+pub mod Rounds
+pub mod Steps
+pub mod Measures
+pub mod Guided
+pub mod Joining
+pub mod Rules
+pub mod Outcomes
+pub mod Paths
+pub mod Fixed
+pub mod Levels
+pub mod Rows
+pub mod Values
+pub mod Worked

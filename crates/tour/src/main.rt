@@ -2,6 +2,7 @@
 mod models;
 mod scales;
 mod show;
+mod trials;
 
 use std::io;
 
@@ -10,5 +11,6 @@ fn main(rt: LibcRuntime) -> io::Result<()> {
     models::tables(&rt)?;
     models::pairs(&rt)?;
     models::refusals(&rt)?;
-    scales::both(&rt)
+    scales::both(&rt)?;
+    trials::all(&rt)
 }

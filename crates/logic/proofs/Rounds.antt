@@ -84,10 +84,10 @@ module _ (n : ℕ) (f : Set → Set) (mono : Monotone n f) where
       go (suc i) = λ s l e. mono T (rounds f i full) (go i) s l (h s l e)
 
 -- rounds from everything, turned
-turned : (Set → Set) → Set → Set
+unfoldable pub turned : (Set → Set) → Set → Set
 turned f T = complement (f (complement T))
 
-rounds-turned : (f : Set → Set) (i : ℕ) → rounds f i full ≡ complement (rounds (turned f) i empty)
+pub rounds-turned : (f : Set → Set) (i : ℕ) → rounds f i full ≡ complement (rounds (turned f) i empty)
 unfolding turned
 rounds-turned f zero = refl
 rounds-turned f (suc i) =

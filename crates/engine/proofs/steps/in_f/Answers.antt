@@ -1,15 +1,16 @@
-use mathlib.Core.Path.{_∙_, refl}
+use native.Mathlib.Omega.{arith}
+use Rattle.std.proofs.shelf.Ways.{tells}
 use Rattle.logic.specs.FixedPoints.{F}
 use Rattle.engine.proofs.steps.in_f.Needs as need
 
-pub returns-then-s1-s : need.returns-then-s1-s
+pub returns-then-has : need.returns-then-has
 unfolding F
-returns-then-s1-s g c = simp (c .if-s1-s .taken)
+returns-then-has g c = grind (arith, tells)
 
-pub returns-then-s2-s : need.returns-then-s2-s
+pub returns-then-has-2 : need.returns-then-has-2
 unfolding F
-returns-then-s2-s g c = c .steps-into .ensures ∙ simp (c .if-s1-s .left, c .if-s2-s .taken)
+returns-then-has-2 g c = grind (arith, tells)
 
-pub returns-else-s2-s : need.returns-else-s2-s
+pub returns-else-has-2 : need.returns-else-has-2
 unfolding F
-returns-else-s2-s g c = simp (c .if-s1-s .left, c .if-s2-s .left)
+returns-else-has-2 g c = grind (arith, tells)

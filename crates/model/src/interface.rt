@@ -1,5 +1,7 @@
 //! The interface that every model stands behind.
 ghost use mathlib.Core.Path.{_≡_};
+ghost use mathlib.Core.Bool.{_&&_};
+ghost use lib.Dec.{ltb};
 ghost use Rattle.model.specs.Limits.{kept};
 ghost use Rattle.model.specs.Meaning.{Meaning, Lawful, Least};
 
@@ -27,6 +29,13 @@ impl Size {
                 props: 0,
             }
         }
+    }
+
+    /// Are there a proposition `p` and a state `s`?
+    pub fn has(self, p: u8, s: u16) -> bool
+        ensures { λ r. ⌜ r ≡ (ltb p (self .props) && ltb s (self .states)) ⌝ }
+    {
+        p < self.props && s < self.states
     }
 }
 

@@ -88,8 +88,7 @@ pub impl<A: Model, B: Model> Model for Pair<A, B> as PairModel {
     fn holds(&self, p: u8, s: u16) -> bool {
         let a = self.first.size();
         let b = self.second.size();
-        let both = joined(a, b);
-        if p >= both.props || s >= both.states {
+        if !joined(a, b).has(p, s) {
             return false;
         }
         if p < a.props {

@@ -134,8 +134,7 @@ pub impl Model for Pool as PoolModel {
     }
 
     fn holds(&self, p: u8, s: u16) -> bool {
-        let size = self.size();
-        if p >= size.props || s >= size.states {
+        if !self.size().has(p, s) {
             return false;
         }
         let sought = if p == 0 { 3 } else { 0 };

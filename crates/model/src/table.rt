@@ -57,8 +57,7 @@ pub impl Model for Table<'_> as TableModel {
     }
 
     fn holds(&self, p: u8, s: u16) -> bool {
-        let size = self.size();
-        if p >= size.props || s >= size.states {
+        if !self.size().has(p, s) {
             return false;
         }
         for h in self.holdings {

@@ -1,4 +1,6 @@
-//! Tests: what models and scales answer at the edges and on examples worked out by hand.
+//! Tests: what models, scales and the engine answer at the edges and on examples worked out by hand.
+#[cfg(test)]
+mod engines;
 #[cfg(test)]
 mod models;
 #[cfg(test)]

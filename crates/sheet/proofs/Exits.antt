@@ -1,0 +1,27 @@
+-- A chain of checks ends at the first refusal.
+use mathlib.Core.Path.{_≡_, ap, sym, _∙_}
+use Rattle.std.specs.declared.result.Result.{Result}
+use Rattle.std.specs.declared.result.Result.the-variants.{Ok, Err}
+use Rattle.model.specs.Faults.{Refusal}
+use mathlib.Core.Bool.{true}
+use Rattle.std.specs.Results.{isErr}
+use Rattle.std.proofs.shelf.Tests.{both-ways}
+use Rattle.sheet.specs.Calls.{andThen, leaving}
+use Rattle.sheet.specs.States.{State}
+use Rattle.sheet.specs.declared.fault.SheetFault.{SheetFault}
+
+pub stops : {X : Type 0} (a : Result Unit Refusal) (r : Result X Refusal) (e : Refusal) → Err e ≡ a → Err e ≡ andThen a r
+stops a r e h = ap (λ (a : Result Unit Refusal). andThen a r) h
+
+pub goes : {X : Type 0} (a : Result Unit Refusal) (r z : Result X Refusal) (u : Unit {0}) → Ok u ≡ a → z ≡ r → z ≡ andThen a r
+goes a r z u h k = k ∙ ap (λ (a : Result Unit Refusal). andThen a r) h
+
+pub never-ok : {A : Type 0} (r : Result Unit SheetFault) → isErr r ≡ true → r ≡ Ok tt → A
+never-ok r e q = absurd (both-ways (isErr r) (ap isErr q) e)
+
+-- a refused call answers the refusal and leaves all as it was; one that is accepted answers the row and adds it
+pub refused : (q : Result Unit Refusal) (e : Refusal) (s t : State) → Err e ≡ q → s ≡ leaving q s t
+refused q e s t h = ap (λ (q : Result Unit Refusal). leaving q s t) h
+
+pub accepted : (q : Result Unit Refusal) (u : Unit {0}) (s t x : State) → Ok u ≡ q → x ≡ t → x ≡ leaving q s t
+accepted q u s t x h k = k ∙ ap (λ (q : Result Unit Refusal). leaving q s t) h

@@ -4,6 +4,7 @@ use Rattle.std.specs.declared.result.Result.{Result}
 use Rattle.std.specs.declared.result.Result.the-variants.{Ok, Err}
 use Rattle.model.specs.Faults.{Refusal}
 use mathlib.Core.Bool.{true}
+use Prim.Native.Nat.{ℕ}
 use Rattle.std.specs.Results.{isErr}
 use Rattle.std.proofs.shelf.Tests.{both-ways}
 use Rattle.sheet.specs.Calls.{andThen, leaving}
@@ -25,3 +26,10 @@ refused q e s t h = ap (λ (q : Result Unit Refusal). leaving q s t) h
 
 pub accepted : (q : Result Unit Refusal) (u : Unit {0}) (s t x : State) → Ok u ≡ q → x ≡ t → x ≡ leaving q s t
 accepted q u s t x h k = k ∙ ap (λ (q : Result Unit Refusal). leaving q s t) h
+
+abbrev okOf : Result ℕ SheetFault → ℕ
+okOf (Ok n) = n
+okOf (Err e) = 0
+
+pub ok-same : (a b : ℕ) → _≡_ {A = Result ℕ SheetFault} (Ok a) (Ok b) → a ≡ b
+ok-same a b e = ap okOf e

@@ -6,3 +6,4 @@ pub mod Marked
 pub mod Asked
 pub mod Raised
 pub mod Writes
+pub mod Scaled

@@ -1,7 +1,17 @@
 -- What `enter` knows of a row that it reads.
 use mathlib.Core.Path.{_≡_}
+use mathlib.Core.List.{List}
+use mathlib.Core.Logic.{_↔_}
 use Prim.Native.Nat.{ℕ, _+_, _*_, _<_, _≤_}
+use lib.ListN.{length}
+use Rattle.logic.specs.Sets.{_∈_}
+use Rattle.logic.specs.Theorems.{OnScale}
+use Rattle.model.specs.Meaning.{Meaning}
+use Rattle.model.specs.Walkable.{Total}
+use Rattle.scale.specs.Grades.{Grades}
+use Rattle.sheet.specs.Calls.{byteAt, firstOf, secondOf, reaches}
 use Rattle.sheet.specs.Kinds.{operandsOf}
+use Rattle.sheet.specs.States.{State, seen}
 use Rattle.sheet.specs.declared.row.Row.{Row}
 use Rattle.sheet.specs.declared.sheet.Sheet.{Sheet}
 
@@ -18,9 +28,17 @@ pub record Room (x : Sheet) (k l : ℕ) : Type 0 where
   pub records : x .rows < k
   pub bytes : (x .rows + 1) * x .states ≤ l
 
--- a row can be entered, over a model of N states and a scale of D levels
-pub record Ready (N D : ℕ) (x : Sheet) (k l : ℕ) (r : Row) : Type 0 where
-  pub same-states : N ≡ x .states
-  pub same-levels : D ≡ x .levels
-  pub room : Room x k l
+-- a row can be entered
+pub record Ready (m : Meaning) (g : Grades) (x : Sheet) (rs : List Row) (bs : List ℕ) (r : Row) : Type 0 where
+  pub same-states : m .states ≡ x .states
+  pub same-levels : g .levels ≡ x .levels
+  pub total : Total m
+  pub room : Room x (length rs) (length bs)
   pub earlier : Earlier x r
+  pub first : OnScale m g (firstOf (seen x rs bs) r)
+  pub second : OnScale m g (secondOf (seen x rs bs) r)
+
+-- the row r reaches each level exactly where the satisfaction set has the state
+abbrev pub ReachesWhereSat : Meaning → Grades → State → Row → State → ℕ → Type 0
+ReachesWhereSat m g s x after r =
+    (l k : ℕ) → 1 ≤ l → l ≤ g .levels → k < m .states → (l ≤ byteAt after r k) ↔ (k ∈ reaches m g s x l)

@@ -28,7 +28,7 @@ const STILL: [Step; 1] = [Step { from: 0, to: 0 }];
 const BREAKING: [Step; 2] = [Step { from: 0, to: 0 }, Step { from: 0, to: 1 }];
 
 /// Three states: the walk may stay in the first and must stay in the last.
-fn staying() -> Table<'static> {
+pub(crate) fn staying() -> Table<'static> {
     Table {
         states: 3,
         props: 1,
@@ -38,7 +38,7 @@ fn staying() -> Table<'static> {
 }
 
 /// Two states by turns.
-fn alternating() -> Table<'static> {
+pub(crate) fn alternating() -> Table<'static> {
     Table {
         states: 2,
         props: 1,
@@ -48,7 +48,7 @@ fn alternating() -> Table<'static> {
 }
 
 /// One state that steps to itself.
-fn still() -> Table<'static> {
+pub(crate) fn still() -> Table<'static> {
     Table {
         states: 1,
         props: 0,
@@ -58,7 +58,7 @@ fn still() -> Table<'static> {
 }
 
 /// The film breaks in state 1.
-fn breaking() -> Table<'static> {
+pub(crate) fn breaking() -> Table<'static> {
     Table {
         states: 2,
         props: 0,

@@ -103,7 +103,7 @@ impl Sheet {
         bytes: &[u8],
         row: Row,
     ) -> Result<(), SheetFault>
-        ensures names { λ r. ⌜ (r ≡ Ok tt → Ready (meaning (now (model .entry)) .states) (grades (now (scale .entry)) .levels) (now (self .entry)) (length (now (rows .entry))) (length (now (bytes .entry))) row) ⌝ }
+        ensures names { λ r. ⌜ (r ≡ Ok tt → Ready (meaning (now (model .entry))) (grades (now (scale .entry))) (now (self .entry)) (now (rows .entry)) (now (bytes .entry)) row) ⌝ }
         ensures exact { λ r. ⌜ answer r ≡ entering (meaning (now (model .entry))) (grades (now (scale .entry))) (seen (now (self .entry)) (now (rows .entry)) (now (bytes .entry))) row ⌝ }
     {
         self.fits(model, scale)?;

@@ -11,11 +11,12 @@ ghost use Rattle.engine.specs.Satisfied.{asked};
 ghost use Rattle.logic.specs.Kinds.{reach};
 ghost use Rattle.logic.specs.Satisfaction.{highest, rowDegree};
 ghost use Rattle.sheet.specs.Calls.{given, firstOf, secondOf, reaches, degreesOf, written, enterAnswer, enterLeaves};
-ghost use Rattle.sheet.specs.Checks.{Earlier};
+ghost use Rattle.sheet.specs.Checks.{Earlier, ReachesWhereSat};
 ghost use Rattle.sheet.specs.Kinds.{kindOf, operatorOf};
 ghost use Rattle.sheet.specs.States.{seen};
 ghost use Rattle.sheet.specs.declared.row.Row.{Row as Record};
 ghost use Rattle.sheet.specs.Faults.{answer};
+ghost use Rattle.std.specs.declared.result.Result.the-variants.{Ok};
 use super::Sheet;
 use crate::fault::SheetFault;
 use crate::kinds::is_binary;
@@ -205,6 +206,7 @@ impl Sheet {
         row: Row,
     ) -> Result<u8, SheetFault>
         ensures answers { λ r. ⌜ answer r ≡ enterAnswer (meaning (now (model .entry))) (grades (now (scale .entry))) (seen (now (self .entry)) (now (rows .entry)) (now (bytes .entry))) row ⌝ }
+        ensures sets { λ r. ⌜ ((n : ℕ) → r ≡ Ok n → ReachesWhereSat (meaning (now (model .entry))) (grades (now (scale .entry))) (seen (now (self .entry)) (now (rows .entry)) (now (bytes .entry))) row (seen (now (self .exit)) (now (rows .exit)) (now (bytes .exit))) n) ⌝ }
         ensures leaves { λ r. ⌜ seen (now (self .exit)) (now (rows .exit)) (now (bytes .exit)) ≡ enterLeaves (meaning (now (model .entry))) (grades (now (scale .entry))) (seen (now (self .entry)) (now (rows .entry)) (now (bytes .entry))) row ⌝ }
     {
         self.check(model, scale, rows, bytes, row)?;

@@ -1,5 +1,10 @@
 use Rattle.std.proofs.shelf.Results.{err-from-errBy}
-use mathlib.Core.Path.{_≡_, refl}
+use mathlib.Core.Path.{_≡_, refl, ap, sym, subst, _∙_}
+use Prim.Native.Nat.{_<_, _≤_}
+use Rattle.sheet.specs.Calls.{firstOf, secondOf}
+use Rattle.sheet.specs.Faults.{answer}
+use Rattle.sheet.specs.States.{seen}
+use Rattle.sheet.proofs.Scaled.{both-on}
 use Rattle.sheet.proofs.Exits.{stops, goes, never-ok}
 use Rattle.sheet.proofs.sheet.Sheet.check.Needs as need
 
@@ -46,8 +51,20 @@ returns-in-Break-form g c =
 
 pub returns : need.returns
 returns g c =
+    let s = seen (c .args .self .now) (c .args .rows .now) (c .args .bytes .now) in
+    let sizes = c .in-Continue-fits .ensures tt .names refl in
     record {
-      names = λ _. record { same-states = c .in-Continue-fits .ensures tt .names refl .0; same-levels = c .in-Continue-fits .ensures tt .names refl .1; room = c .in-Continue-room .ensures tt .names refl; earlier = c .in-Continue-form .ensures tt .names refl };
+      names = λ q.
+          let on = both-on s (c .args .row) tt (sym (ap answer q) ∙ c .read .ensures (c .args .rows .now)) in
+          record {
+            same-states = sizes .0;
+            same-levels = sizes .1;
+            total = c .in-Continue-walkable .ensures tt .means .1;
+            room = c .in-Continue-room .ensures tt .names refl;
+            earlier = c .in-Continue-form .ensures tt .names refl;
+            first = λ k l. subst (λ D. firstOf s (c .args .row) k ≤ D) (sym (sizes .1)) (on k (subst (λ N. k < N) (sizes .0) l) .0);
+            second = λ k l. subst (λ D. secondOf s (c .args .row) k ≤ D) (sym (sizes .1)) (on k (subst (λ N. k < N) (sizes .0) l) .1);
+          };
       exact =
           goes _ _ _ _ (c .in-Continue-fits .ensures tt .exact (c .args .rows .now) (c .args .bytes .now))
           (goes _ _ _ _ (c .in-Continue-walkable .ensures tt .exact)

@@ -20,10 +20,7 @@ goes a r z u h k = k ∙ ap (λ (a : Result Unit Refusal). andThen a r) h
 pub never-ok : {A : Type 0} (r : Result Unit SheetFault) → isErr r ≡ true → r ≡ Ok tt → A
 never-ok r e q = absurd (both-ways (isErr r) (ap isErr q) e)
 
--- a refused call answers the refusal and leaves all as it was; one that is accepted answers the row and adds it
-pub refused : (q : Result Unit Refusal) (e : Refusal) (s t : State) → Err e ≡ q → s ≡ leaving q s t
-refused q e s t h = ap (λ (q : Result Unit Refusal). leaving q s t) h
-
+-- a call that is accepted leaves what it makes
 pub accepted : (q : Result Unit Refusal) (u : Unit {0}) (s t x : State) → Ok u ≡ q → x ≡ t → x ≡ leaving q s t
 accepted q u s t x h k = k ∙ ap (λ (q : Result Unit Refusal). leaving q s t) h
 

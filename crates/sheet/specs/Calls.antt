@@ -45,7 +45,7 @@ degreeAnswer s r k =
     (andThen (refuseIf (ltb (length (s .degrees)) (s .count * s .states)) (refusal 4 0))
     (andThen (refuseIf (ltb (s .levels) (byteAt s r k)) (refusal 9 0)) (Ok (byteAt s r k))))
 
--- `clear` at the state s leaves t
+-- what `clear` leaves
 abbrev pub cleared : State → State
 cleared s = record { states = s .states; props = s .props; levels = s .levels; count = 0; records = s .records; degrees = s .degrees }
 

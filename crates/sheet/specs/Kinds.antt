@@ -2,7 +2,6 @@
 use mathlib.Core.Bool.{cond}
 use mathlib.Core.List.{List, [], _∷_}
 use Prim.Native.Nat.{ℕ, _-_}
-use lib.Chars.{codes}
 use lib.Dec.{eqb, ltb}
 use lib.ListN.{getD}
 use Rattle.logic.specs.Kinds.{Kind}
@@ -27,8 +26,3 @@ counts = 1 ∷ 2 ∷ 2 ∷ 1 ∷ 2 ∷ 1 ∷ 1 ∷ 1 ∷ 2 ∷ 2 ∷ 1 ∷ 1 ∷
 
 abbrev pub operandsOf : ℕ → ℕ
 operandsOf k = getD counts (k - 1) 0
-
-abbrev pub names : List (List ℕ)
-names =
-    codes "p" ∷ codes "or" ∷ codes "and" ∷ codes "not" ∷ codes "imp" ∷ codes "EX" ∷ codes "EF" ∷ codes "EG" ∷ codes "EU" ∷ codes "EW"
-    ∷ codes "AX" ∷ codes "AF" ∷ codes "AG" ∷ codes "AU" ∷ codes "AW" ∷ []

@@ -8,6 +8,7 @@ use scale::scales::FiveValued;
 use scale::scales::FiveValuedScale;
 use sheet::fault::SheetFault;
 use sheet::fault::SheetFaultPartialEq;
+use sheet::kinds::KINDS;
 use sheet::row::Row;
 use sheet::sheet::Sheet;
 use std::test::*;
@@ -140,4 +141,33 @@ fn a_spoiled_byte_is_refused_and_changes_nothing() -> Result<(), Fail> {
 #[test]
 fn another_model_is_refused_first() -> Result<(), Fail> {
     check(spoiled(&pool(2, 0)) == Ok((103, 108, 7)))
+}
+
+#[test]
+fn kinds_are_numbered_from_1_in_the_order_of_the_table() -> Result<(), Fail> {
+    let mut number = 0u8;
+    for kind in KINDS {
+        number = number.saturating_add(1);
+        check_eq(kind.number, number)?;
+    }
+    check_eq(number, 15)
+}
+
+#[test]
+fn kinds_have_the_names_of_the_logic() -> Result<(), Fail> {
+    check(KINDS[0].name == "p")?;
+    check(KINDS[1].name == "or")?;
+    check(KINDS[2].name == "and")?;
+    check(KINDS[3].name == "not")?;
+    check(KINDS[4].name == "imp")?;
+    check(KINDS[5].name == "EX")?;
+    check(KINDS[6].name == "EF")?;
+    check(KINDS[7].name == "EG")?;
+    check(KINDS[8].name == "EU")?;
+    check(KINDS[9].name == "EW")?;
+    check(KINDS[10].name == "AX")?;
+    check(KINDS[11].name == "AF")?;
+    check(KINDS[12].name == "AG")?;
+    check(KINDS[13].name == "AU")?;
+    check(KINDS[14].name == "AW")
 }

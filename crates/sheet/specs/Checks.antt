@@ -39,6 +39,6 @@ pub record Ready (m : Meaning) (g : Grades) (x : Sheet) (rs : List Row) (bs : Li
   pub second : OnScale m g (secondOf (seen x rs bs) r)
 
 -- the row r reaches each level exactly where the satisfaction set has the state
-abbrev pub ReachesWhereSat : Meaning → Grades → State → Row → State → ℕ → Type 0
-ReachesWhereSat m g s x after r =
+abbrev pub RowReaches : Meaning → Grades → State → Row → State → ℕ → Type 0
+RowReaches m g s x after r =
     (l k : ℕ) → 1 ≤ l → l ≤ g .levels → k < m .states → (l ≤ byteAt after r k) ↔ (k ∈ reaches m g s x l)

@@ -2,13 +2,17 @@
 ghost use mathlib.Core.Path.{_≡_};
 ghost use mathlib.Core.List.{List};
 ghost use Prim.Native.Nat.{ℕ};
-ghost use Rattle.sheet.specs.Calls.{openAnswer, degreeAnswer, cleared};
+ghost use Rattle.sheet.specs.Calls.{openAnswer, enterAnswer, enterLeaves, degreeAnswer, cleared};
+ghost use Rattle.sheet.specs.Checks.{RowReaches};
 ghost use Rattle.sheet.specs.Faults.{answer};
+ghost use Rattle.std.specs.declared.result.Result.the-variants.{Ok};
 ghost use Rattle.sheet.specs.States.{seen, seenIn};
 ghost use Rattle.sheet.specs.declared.row.Row.{Row as Record};
 use super::Sheet;
 use crate::fault::SheetFault;
 use crate::fault::SheetFaultFromModel;
+use crate::row::Row;
+use crate::sheet::working::write;
 use model::check::walkable;
 use model::interface::Model;
 use scale::scales::Scale;
@@ -26,6 +30,33 @@ impl Sheet {
             levels: scale.levels(),
             rows: 0,
         })
+    }
+
+    /// Enters a row and works out its degrees. Answers the row's number.
+    pub fn enter<M: Model, S: Scale>(
+        &mut self,
+        model: &M,
+        scale: &S,
+        rows: &mut [Row],
+        bytes: &mut [u8],
+        row: Row,
+    ) -> Result<u8, SheetFault>
+        ensures answers { λ r. ⌜ answer r ≡ enterAnswer (meaning (now (model .entry))) (grades (now (scale .entry))) (seen (now (self .entry)) (now (rows .entry)) (now (bytes .entry))) row ⌝ }
+        ensures sets { λ r. ⌜ ((n : ℕ) → r ≡ Ok n → RowReaches (meaning (now (model .entry))) (grades (now (scale .entry))) (seen (now (self .entry)) (now (rows .entry)) (now (bytes .entry))) row (seen (now (self .exit)) (now (rows .exit)) (now (bytes .exit))) n) ⌝ }
+        ensures leaves { λ r. ⌜ seen (now (self .exit)) (now (rows .exit)) (now (bytes .exit)) ≡ enterLeaves (meaning (now (model .entry))) (grades (now (scale .entry))) (seen (now (self .entry)) (now (rows .entry)) (now (bytes .entry))) row ⌝ }
+    {
+        self.check(model, scale, rows, bytes, row)?;
+        let degrees = self.work_out(model, scale, bytes, row);
+        let count = self.rows;
+        write(
+            bytes,
+            count as usize * self.states as usize,
+            self.states,
+            &degrees,
+        );
+        rows[count as usize] = row;
+        self.rows = count + 1;
+        Ok(count)
     }
 
     /// Forgets all rows. The buffers are not touched.

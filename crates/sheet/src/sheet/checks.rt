@@ -22,7 +22,7 @@ use scale::scales::Scale;
 impl Sheet {
     /// Are the model and the scale of the sheet's size?
     fn fits<M: Model, S: Scale>(&self, model: &M, scale: &S) -> Result<(), SheetFault>
-        ensures names { λ r. ⌜ (r ≡ Ok tt → (meaning (now (model .entry)) .states ≡ now (self .entry) .states) × (grades (now (scale .entry)) .levels ≡ now (self .entry) .levels)) ⌝ }
+        ensures known { λ r. ⌜ (r ≡ Ok tt → (meaning (now (model .entry)) .states ≡ now (self .entry) .states) × (grades (now (scale .entry)) .levels ≡ now (self .entry) .levels)) ⌝ }
         ensures exact { λ r. ⌜ ((rs : List Record) (bs : List ℕ) → answer r ≡ fitting (seen (now (self .entry)) rs bs) (meaning (now (model .entry))) (grades (now (scale .entry)))) ⌝ }
     {
         let size = model.size();
@@ -34,7 +34,7 @@ impl Sheet {
 
     /// Is there room for one more row?
     fn room(&self, rows: &[Row], bytes: &[u8]) -> Result<(), SheetFault>
-        ensures names { λ r. ⌜ (r ≡ Ok tt → Room (now (self .entry)) (length (now (rows .entry))) (length (now (bytes .entry)))) ⌝ }
+        ensures known { λ r. ⌜ (r ≡ Ok tt → Room (now (self .entry)) (length (now (rows .entry))) (length (now (bytes .entry)))) ⌝ }
         ensures exact { λ r. ⌜ answer r ≡ roomy (seen (now (self .entry)) (now (rows .entry)) (now (bytes .entry))) ⌝ }
     {
         let count = self.rows as usize + 1;
@@ -47,7 +47,7 @@ impl Sheet {
     /// Has the row a kind, and are its proposition or its operands there?
     fn form(&self, row: Row) -> Result<(), SheetFault>
         ensures exact { λ r. ⌜ ((rs : List Record) (bs : List ℕ) → answer r ≡ formed (seen (now (self .entry)) rs bs) row) ⌝ }
-        ensures names { λ r. ⌜ (r ≡ Ok tt → Earlier (now (self .entry)) row) ⌝ }
+        ensures known { λ r. ⌜ (r ≡ Ok tt → Earlier (now (self .entry)) row) ⌝ }
     {
         let Some(count) = operands(row.kind) else {
             return Err(SheetFault::Kind);
@@ -103,7 +103,7 @@ impl Sheet {
         bytes: &[u8],
         row: Row,
     ) -> Result<(), SheetFault>
-        ensures names { λ r. ⌜ (r ≡ Ok tt → Ready (meaning (now (model .entry))) (grades (now (scale .entry))) (now (self .entry)) (now (rows .entry)) (now (bytes .entry)) row) ⌝ }
+        ensures known { λ r. ⌜ (r ≡ Ok tt → Ready (meaning (now (model .entry))) (grades (now (scale .entry))) (now (self .entry)) (now (rows .entry)) (now (bytes .entry)) row) ⌝ }
         ensures exact { λ r. ⌜ answer r ≡ entering (meaning (now (model .entry))) (grades (now (scale .entry))) (seen (now (self .entry)) (now (rows .entry)) (now (bytes .entry))) row ⌝ }
     {
         self.fits(model, scale)?;

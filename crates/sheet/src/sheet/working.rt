@@ -10,15 +10,12 @@ ghost use Rattle.engine.specs.Rounded.{Holds};
 ghost use Rattle.engine.specs.Satisfied.{asked};
 ghost use Rattle.logic.specs.Kinds.{reach};
 ghost use Rattle.logic.specs.Satisfaction.{highest, rowDegree};
-ghost use Rattle.sheet.specs.Calls.{given, firstOf, secondOf, reaches, degreesOf, written, enterAnswer, enterLeaves};
-ghost use Rattle.sheet.specs.Checks.{Earlier, ReachesWhereSat};
+ghost use Rattle.sheet.specs.Calls.{given, firstOf, secondOf, reaches, degreesOf, written};
+ghost use Rattle.sheet.specs.Checks.{Earlier};
 ghost use Rattle.sheet.specs.Kinds.{kindOf, operatorOf};
 ghost use Rattle.sheet.specs.States.{seen};
 ghost use Rattle.sheet.specs.declared.row.Row.{Row as Record};
-ghost use Rattle.sheet.specs.Faults.{answer};
-ghost use Rattle.std.specs.declared.result.Result.the-variants.{Ok};
 use super::Sheet;
-use crate::fault::SheetFault;
 use crate::kinds::is_binary;
 use crate::row::Row;
 use engine::operator::Operator;
@@ -44,7 +41,7 @@ fn degree_at<M: Model, S: Scale>(model: &M, scale: &S, row: Row, s: u16, a: u8, 
 
 /// A degree for each state.
 #[derive(Clone, Copy)]
-struct Degrees {
+pub(crate) struct Degrees {
     of: [u8; 4096],
 }
 
@@ -61,7 +58,7 @@ fn raise(n: u16, set: &StateSet, level: u8, degrees: &mut Degrees)
 }
 
 /// Writes the degrees of `n` states from place `start` on.
-fn write(bytes: &mut [u8], start: usize, n: u16, degrees: &Degrees)
+pub(crate) fn write(bytes: &mut [u8], start: usize, n: u16, degrees: &Degrees)
     requires { ⌜ (n ≤ 4096) × (start + n ≤ length (now bytes)) ⌝ }
     ensures { λ _. ⌜ now (bytes .exit) ≡ written (now (bytes .entry)) start n (λ s. getD (now (degrees .entry) .of) s 0) ⌝ }
 {
@@ -186,7 +183,13 @@ impl Sheet {
     }
 
     /// The degrees of a row.
-    fn work_out<M: Model, S: Scale>(&self, model: &M, scale: &S, bytes: &[u8], row: Row) -> Degrees
+    pub(crate) fn work_out<M: Model, S: Scale>(
+        &self,
+        model: &M,
+        scale: &S,
+        bytes: &[u8],
+        row: Row,
+    ) -> Degrees
         requires { ⌜ (now self .rows * now self .states ≤ length (now bytes)) × (meaning (now model) .states ≡ now self .states) × (grades (now scale) .levels ≡ now self .levels) × Earlier (now self) row ⌝ }
         ensures { λ r. ⌜ ((rs : List Record) (s : ℕ) → s < now (self .entry) .states → getD (r .of) s 0 ≡ degreesOf (meaning (now (model .entry))) (grades (now (scale .entry))) (seen (now (self .entry)) rs (now (bytes .entry))) row s) ⌝ }
     {
@@ -194,32 +197,5 @@ impl Sheet {
             return self.by_states(model, scale, bytes, row);
         }
         self.by_levels(model, scale, bytes, row)
-    }
-
-    /// Enters a row and works out its degrees. Answers the row's number.
-    pub fn enter<M: Model, S: Scale>(
-        &mut self,
-        model: &M,
-        scale: &S,
-        rows: &mut [Row],
-        bytes: &mut [u8],
-        row: Row,
-    ) -> Result<u8, SheetFault>
-        ensures answers { λ r. ⌜ answer r ≡ enterAnswer (meaning (now (model .entry))) (grades (now (scale .entry))) (seen (now (self .entry)) (now (rows .entry)) (now (bytes .entry))) row ⌝ }
-        ensures sets { λ r. ⌜ ((n : ℕ) → r ≡ Ok n → ReachesWhereSat (meaning (now (model .entry))) (grades (now (scale .entry))) (seen (now (self .entry)) (now (rows .entry)) (now (bytes .entry))) row (seen (now (self .exit)) (now (rows .exit)) (now (bytes .exit))) n) ⌝ }
-        ensures leaves { λ r. ⌜ seen (now (self .exit)) (now (rows .exit)) (now (bytes .exit)) ≡ enterLeaves (meaning (now (model .entry))) (grades (now (scale .entry))) (seen (now (self .entry)) (now (rows .entry)) (now (bytes .entry))) row ⌝ }
-    {
-        self.check(model, scale, rows, bytes, row)?;
-        let degrees = self.work_out(model, scale, bytes, row);
-        let count = self.rows;
-        write(
-            bytes,
-            count as usize * self.states as usize,
-            self.states,
-            &degrees,
-        );
-        rows[count as usize] = row;
-        self.rows = count + 1;
-        Ok(count)
     }
 }

@@ -12,7 +12,7 @@ pub returns-in-Break-fits : need.returns-in-Break-fits
 returns-in-Break-fits g c =
     let p = err-from-errBy (c .from-residual .result) (c .from-residual .ensures .1) in
     record {
-      names = never-ok (c .from-residual .result) (c .from-residual .ensures .0);
+      known = never-ok (c .from-residual .result) (c .from-residual .ensures .0);
       exact =
           rw (p .1, p .2) (stops _ _ _ (c .in-Break-fits .ensures tt .exact (c .args .rows .now) (c .args .bytes .now)));
     }
@@ -21,7 +21,7 @@ pub returns-in-Break-walkable : need.returns-in-Break-walkable
 returns-in-Break-walkable g c =
     let p = err-from-errBy (c .from-residual-in-Break-walkable .result) (c .from-residual-in-Break-walkable .ensures .1) in
     record {
-      names = never-ok (c .from-residual-in-Break-walkable .result) (c .from-residual-in-Break-walkable .ensures .0);
+      known = never-ok (c .from-residual-in-Break-walkable .result) (c .from-residual-in-Break-walkable .ensures .0);
       exact =
           rw (p .1, p .2) (goes _ _ _ _ (c .in-Continue-fits .ensures tt .exact (c .args .rows .now) (c .args .bytes .now)) (stops _ _ _ (c .in-Break-walkable .ensures tt .exact)));
     }
@@ -30,7 +30,7 @@ pub returns-in-Break-room : need.returns-in-Break-room
 returns-in-Break-room g c =
     let p = err-from-errBy (c .from-residual-in-Break-room .result) (c .from-residual-in-Break-room .ensures .1) in
     record {
-      names = never-ok (c .from-residual-in-Break-room .result) (c .from-residual-in-Break-room .ensures .0);
+      known = never-ok (c .from-residual-in-Break-room .result) (c .from-residual-in-Break-room .ensures .0);
       exact =
           rw (p .1, p .2)
           (goes _ _ _ _ (c .in-Continue-fits .ensures tt .exact (c .args .rows .now) (c .args .bytes .now))
@@ -41,7 +41,7 @@ pub returns-in-Break-form : need.returns-in-Break-form
 returns-in-Break-form g c =
     let p = err-from-errBy (c .from-residual-in-Break-form .result) (c .from-residual-in-Break-form .ensures .1) in
     record {
-      names = never-ok (c .from-residual-in-Break-form .result) (c .from-residual-in-Break-form .ensures .0);
+      known = never-ok (c .from-residual-in-Break-form .result) (c .from-residual-in-Break-form .ensures .0);
       exact =
           rw (p .1, p .2)
           (goes _ _ _ _ (c .in-Continue-fits .ensures tt .exact (c .args .rows .now) (c .args .bytes .now))
@@ -52,16 +52,16 @@ returns-in-Break-form g c =
 pub returns : need.returns
 returns g c =
     let s = seen (c .args .self .now) (c .args .rows .now) (c .args .bytes .now) in
-    let sizes = c .in-Continue-fits .ensures tt .names refl in
+    let sizes = c .in-Continue-fits .ensures tt .known refl in
     record {
-      names = λ q.
+      known = λ q.
           let on = both-on s (c .args .row) tt (sym (ap answer q) ∙ c .read .ensures (c .args .rows .now)) in
           record {
             same-states = sizes .0;
             same-levels = sizes .1;
             total = c .in-Continue-walkable .ensures tt .means .1;
-            room = c .in-Continue-room .ensures tt .names refl;
-            earlier = c .in-Continue-form .ensures tt .names refl;
+            room = c .in-Continue-room .ensures tt .known refl;
+            earlier = c .in-Continue-form .ensures tt .known refl;
             first = λ k l. subst (λ D. firstOf s (c .args .row) k ≤ D) (sym (sizes .1)) (on k (subst (λ N. k < N) (sizes .0) l) .0);
             second = λ k l. subst (λ D. secondOf s (c .args .row) k ≤ D) (sym (sizes .1)) (on k (subst (λ N. k < N) (sizes .0) l) .1);
           };

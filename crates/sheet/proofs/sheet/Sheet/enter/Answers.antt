@@ -23,7 +23,7 @@ returns g c =
     let ok = c .in-Continue-check .ensures tt .exact in
     let bytes : c .write .last .bytes ≡ written (c .args .bytes .now) (x .rows * x .states) (x .states) (degreesOf m d s (c .args .row)) =
     c .write .ensures ∙ same-written _ _ (x .states) _ _ (λ k h. c .work-out-degrees .ensures (c .args .rows .now) k h) in
-    let ready = c .in-Continue-check .ensures tt .names refl in
+    let ready = c .in-Continue-check .ensures tt .known refl in
     let row = c .args .row in
     let place : x .rows * x .states + x .states ≤ length (c .args .bytes .now) = omega (arith, ready .room .bytes, suc-mul (x .rows) (x .states)) in
     let reads : (k : ℕ) → k < x .states → getD (c .write .last .bytes) (x .rows * x .states + k) 0 ≡ degreesOf m d s row k =

@@ -1,4 +1,5 @@
 //! The language of texts: which script a text spells, and that the reader reads exactly the lawful ones.
+#![tactic(auto)]
 ghost use Rattle.grammar.specs.Laws.{ReadWhereLawful, FormFaultWhereUnfit};
 
 /// A text is read exactly where it spells a lawful script, and as that script.

@@ -1,4 +1,5 @@
 //! The listing call: a text in, its degrees or its fault out.
+#![tactic(auto)]
 pub mod answering;
 pub mod answers;
 mod asking;

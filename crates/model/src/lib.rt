@@ -1,4 +1,6 @@
 //! Finite models: one interface, what stands behind it, and the check that a model can be walked.
+#![tactic(auto)]
+
 pub mod check;
 pub mod fault;
 pub mod interface;

@@ -5,7 +5,7 @@ ghost use Rattle.model.specs.Limits.{kept};
 ghost use Rattle.model.specs.Meaning.{Least};
 ghost use Rattle.model.specs.Pairs.{paired, labels};
 
-use crate::interface::{Model, Size};
+use crate::interface::{Model as FiniteModel, Size};
 use crate::lesser::lesser_of;
 
 /// Two models of which one steps while the other waits.
@@ -35,7 +35,7 @@ fn joined(a: Size, b: Size) -> Size
 
 /// The least state of a pair from `t` on to which its first part steps from `i`, while the second, of `width` states,
 /// waits in `j`.
-fn first_steps<M: Model>(part: &M, width: u16, i: u16, j: u16, t: u16) -> Option<u16>
+fn first_steps<M: FiniteModel>(part: &M, width: u16, i: u16, j: u16, t: u16) -> Option<u16>
     requires { (j < width) × ((meaning part.now).states * width ≤ 4096) }
     ensures { Least (λ u. (u % width == j) && (meaning part.now).step i (u / width)) t result }
 {
@@ -48,7 +48,7 @@ fn first_steps<M: Model>(part: &M, width: u16, i: u16, j: u16, t: u16) -> Option
 
 /// The least state of a pair from `t` on to which its second part, of `width` states, steps from `j`, while the first
 /// waits in `i`.
-fn second_steps<M: Model>(part: &M, width: u16, i: u16, j: u16, t: u16) -> Option<u16>
+fn second_steps<M: FiniteModel>(part: &M, width: u16, i: u16, j: u16, t: u16) -> Option<u16>
     requires { ((meaning part.now).states ≡ width) × (0 < width) × (i * width + width ≤ 4096) }
     ensures { Least (λ u. (u / width == i) && (meaning part.now).step j (u % width)) t result }
 {
@@ -59,7 +59,7 @@ fn second_steps<M: Model>(part: &M, width: u16, i: u16, j: u16, t: u16) -> Optio
     }
 }
 
-pub impl<A: Model, B: Model> Model for Pair<A, B> as PairModel {
+impl<A: FiniteModel, B: FiniteModel> FiniteModel for Pair<A, B> {
     ghost meaning = { λ x. paired (A.Model.meaning x.first) (B.Model.meaning x.second) };
 
     ghost lawful = { λ x. paired_lawful (A.Model.meaning x.first) (B.Model.meaning x.second) };

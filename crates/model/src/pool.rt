@@ -4,7 +4,7 @@ ghost use Rattle.model.specs.Lawfulness.{pooled_lawful};
 ghost use Rattle.model.specs.Meaning.{Least};
 ghost use Rattle.model.specs.Pools.{digit, share, holder, leads, pooled};
 
-use crate::interface::{Model, Size};
+use crate::interface::{Model as FiniteModel, Size};
 use crate::lesser::lesser_of;
 
 /// A capture thread.
@@ -99,7 +99,7 @@ impl Pool {
     }
 }
 
-pub impl Model for Pool as PoolModel {
+impl FiniteModel for Pool {
     ghost meaning = { λ x. pooled x.buffers x.guard };
 
     ghost lawful = { λ x. pooled_lawful x.buffers x.guard };

@@ -3,7 +3,7 @@ ghost use Rattle.std.specs.Prelude.{◌≡◌};
 ghost use Rattle.model.specs.Lawfulness.{listed_lawful};
 ghost use Rattle.model.specs.Tables.{listed};
 
-use crate::interface::{Model, Size};
+use crate::interface::{Model as FiniteModel, Size};
 use crate::lesser::lesser_of;
 
 /// A step of a table.
@@ -32,7 +32,7 @@ pub struct Table<'a> {
     pub holdings: &'a [Holding],
 }
 
-pub impl Model for Table<'_> as TableModel {
+impl FiniteModel for Table<'_> {
     ghost meaning = { λ x. listed x.states x.props x.steps.now x.holdings.now };
 
     ghost lawful = { λ x. listed_lawful x.states x.props x.steps.now x.holdings.now };

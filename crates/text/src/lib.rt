@@ -1,4 +1,5 @@
 //! The text form: a scale, a model, and formulas asked of its states.
+#![tactic(auto)]
 pub mod fault;
 pub mod kept;
 pub mod read;

@@ -2,7 +2,7 @@ use Rattle.std.proofs.Common.{rules}
 use Rattle.model.specs.declared.table.Holding.{Holding}
 use Rattle.std.proofs.lemmas.List.{take_all}
 use Rattle.model.proofs.Any.{any_at, any_none}
-use Rattle.model.proofs.table.TableModel.holds.Goals as goal
+use Rattle.model.proofs.table.TableFiniteModel.holds.Goals as goal
 
 pub returns-then-h-s : goal.returns-then-h-s
 returns-then-h-s c = search (rules, any_at)

@@ -1,6 +1,6 @@
 use Rattle.std.proofs.Common.{◌≡◌, false, take}
 use Rattle.model.specs.Tables.{any, is_holding}
-use Rattle.model.proofs.table.TableModel.holds.Given as goal
+use Rattle.model.proofs.table.TableFiniteModel.holds.Given as goal
 
 -- no holding passed yet is the one asked for
 abbrev pub invariant-loop-h : goal.invariant-loop-h

@@ -3,7 +3,7 @@ use Rattle.model.specs.Below.{some}
 use Rattle.model.specs.Meaning.{Least}
 use Rattle.model.specs.Pools.{leads}
 use Rattle.model.specs.declared.pool.Thread.TheVariants.{A, B}
-use Rattle.model.proofs.pool.PoolModel.least_step.Given as goal
+use Rattle.model.proofs.pool.PoolFiniteModel.least_step.Given as goal
 
 -- the least state to which a move with one of the buffers passed leads
 abbrev pub invariant-loop-i : goal.invariant-loop-i

@@ -1,7 +1,7 @@
 use Rattle.std.proofs.Common.{◌&&◌, ltb, take}
 use Rattle.model.specs.Meaning.{Least}
 use Rattle.model.specs.Tables.{any, is_step}
-use Rattle.model.proofs.table.TableModel.least_step.Given as goal
+use Rattle.model.proofs.table.TableFiniteModel.least_step.Given as goal
 
 -- the least step among the records passed
 abbrev pub invariant-loop-e : goal.invariant-loop-e

@@ -4,8 +4,8 @@ use Rattle.std.proofs.lemmas.Bool.Decides.{nat_tests}
 use Rattle.model.specs.Below.{some}
 use Rattle.model.specs.Pools.{digit}
 use Rattle.model.proofs.Below.{some_decides}
-use Rattle.model.proofs.pool.PoolModel.holds.Goals as goal
-use Rattle.model.proofs.pool.PoolModel.holds.Goals.{then-p-eq0, else-p-eq0}
+use Rattle.model.proofs.pool.PoolFiniteModel.holds.Goals as goal
+use Rattle.model.proofs.pool.PoolFiniteModel.holds.Goals.{then-p-eq0, else-p-eq0}
 
 pub returns-then-digit-of-sought : goal.returns-then-digit-of-sought
 returns-then-digit-of-sought c =

@@ -4,8 +4,8 @@ use Rattle.model.specs.Meaning.{Least}
 use Rattle.model.specs.Tables.{any, is_step, listed}
 use Rattle.model.proofs.Limited.{limited-least}
 use Rattle.model.proofs.Listed.{entry-counts, entry_counts_not}
-use Rattle.model.proofs.table.TableModel.least_step.Goals as goal
-use Rattle.model.proofs.table.TableModel.least_step.Goals.{then-e-s+then-e-t+then-e-n, else-e-s, else-e-s-via-then-e-s+then-e-t+else-e-n, else-e-s-via-then-e-s+else-e-t, else-e-s-via-else-e-s}
+use Rattle.model.proofs.table.TableFiniteModel.least_step.Goals as goal
+use Rattle.model.proofs.table.TableFiniteModel.least_step.Goals.{then-e-s+then-e-t+then-e-n, else-e-s, else-e-s-via-then-e-s+then-e-t+else-e-n, else-e-s-via-then-e-s+else-e-t, else-e-s-via-else-e-s}
 
 pub loop-e-preserved : goal.loop-e-preserved
 loop-e-preserved c =

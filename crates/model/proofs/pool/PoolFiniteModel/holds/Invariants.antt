@@ -1,7 +1,7 @@
 use Rattle.std.proofs.Common.{◌≡◌, false, eqb}
 use Rattle.model.specs.Below.{some}
 use Rattle.model.specs.Pools.{digit}
-use Rattle.model.proofs.pool.PoolModel.holds.Given as goal
+use Rattle.model.proofs.pool.PoolFiniteModel.holds.Given as goal
 
 -- no buffer passed has the digit sought
 abbrev pub invariant-loop-i : goal.invariant-loop-i

@@ -6,7 +6,7 @@ use Rattle.model.specs.Pools.{leads, pooled}
 use Rattle.model.specs.declared.pool.Thread.TheVariants.{A, B}
 use Rattle.model.proofs.Limited.{limited-least}
 use Rattle.model.proofs.Pooled.{pool_whole, buffer_more}
-use Rattle.model.proofs.pool.PoolModel.least_step.Goals as goal
+use Rattle.model.proofs.pool.PoolFiniteModel.least_step.Goals as goal
 
 pub loop-i-preserved : goal.loop-i-preserved
 loop-i-preserved c =

@@ -2,7 +2,7 @@ use Rattle.std.proofs.Common.{◌≡◌, ℕ, ◌+◌, ◌*◌, ◌/◌, ◌%◌
 use Rattle.model.specs.Meaning.{Meaning, Lawful, Least}
 use Rattle.model.specs.Pairs.{paired, first_steps, second_steps}
 use Rattle.model.proofs.Paired.{row_fits, whole, wide, paired-least}
-use Rattle.model.proofs.pair.PairModel.least_step.Goals as goal
+use Rattle.model.proofs.pair.PairFiniteModel.least_step.Goals as goal
 
 pub second-steps-requires : goal.second-steps-requires
 second-steps-requires g c =

@@ -1,7 +1,7 @@
 use Rattle.std.proofs.Common.{arith}
 use Rattle.std.proofs.lemmas.Bool.Decides.{nat_tests}
 use Rattle.model.proofs.Pooled.{few}
-use Rattle.model.proofs.pool.PoolModel.size.Goals as goal
+use Rattle.model.proofs.pool.PoolFiniteModel.size.Goals as goal
 
 pub pow-requires : goal.pow-requires
 pow-requires c = omega (arith, few c.args.self.now.buffers (omega arith))

@@ -27,7 +27,7 @@ pub fn never_holds<M: Model, S: Scale>(
     level: u8,
     out: &mut [u16],
 ) -> Result<Verdict, SheetFault>
-    ensures { IfOk result (λ v. Judged (meaning model.now) (grades scale.now) p state level out.old out.new v) }
+    ensures { IfOk result (λ v. Judged (M.meaning model.now) (S.grades scale.now) p state level out.old out.new v) }
 {
     let mut sheet = Sheet::open(model, scale)?;
     let held = sheet.enter(

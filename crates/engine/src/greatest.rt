@@ -20,7 +20,7 @@ fn turn(n: u16, s1: &StateSet, s2: &StateSet, a: &mut StateSet, b: &mut StateSet
 
 /// The greatest fixed point of F of S1 and S2, by the round in which each other state leaves it.
 pub fn greatest<M: Model>(model: &M, some: bool, s1: &StateSet, s2: &StateSet) -> Rounds
-    ensures { Leaves (meaning model.now).states (step_f (meaning model.now) some s1.now s2.now) result (suc (meaning model.now).states) }
+    ensures { Leaves (M.meaning model.now).states (step_f (M.meaning model.now) some s1.now s2.now) result (suc (M.meaning model.now).states) }
 {
     let mut a = StateSet::of(false);
     let mut b = StateSet::of(false);

@@ -17,7 +17,7 @@ fn grow<M: Model>(
     joined: &mut Rounds,
 ) -> bool
     requires { k < 65535 }
-    ensures { Round (meaning model.now).states (step_f (meaning model.now) some s1.now s2.now) k joined.old joined.new result }
+    ensures { Round (M.meaning model.now).states (step_f (M.meaning model.now) some s1.now s2.now) k joined.old joined.new result }
 {
     let mut grew = false;
     for s in 0..model.states() {
@@ -32,7 +32,7 @@ fn grow<M: Model>(
 /// As `least`, where no state has joined yet.
 fn fill<M: Model>(model: &M, some: bool, s1: &StateSet, s2: &StateSet, joined: &mut Rounds)
     requires { joined.old.rounds ≡ replicate 4096 65535 }
-    ensures { Joins (meaning model.now).states (step_f (meaning model.now) some s1.now s2.now) joined.new (suc (meaning model.now).states) }
+    ensures { Joins (M.meaning model.now).states (step_f (M.meaning model.now) some s1.now s2.now) joined.new (suc (M.meaning model.now).states) }
 {
     for k in 0..model.states() + 1 {
         if !grow(model, some, s1, s2, k, joined) {
@@ -43,7 +43,7 @@ fn fill<M: Model>(model: &M, some: bool, s1: &StateSet, s2: &StateSet, joined: &
 
 /// The least fixed point of F of S1 and S2, by the round in which each state joins it.
 pub fn least<M: Model>(model: &M, some: bool, s1: &StateSet, s2: &StateSet) -> Rounds
-    ensures { Joins (meaning model.now).states (step_f (meaning model.now) some s1.now s2.now) result (suc (meaning model.now).states) }
+    ensures { Joins (M.meaning model.now).states (step_f (M.meaning model.now) some s1.now s2.now) result (suc (M.meaning model.now).states) }
 {
     let mut joined = Rounds::of(NEVER);
     fill(model, some, s1, s2, &mut joined);

@@ -20,7 +20,7 @@ fn apply<M: Model>(
     k: u16,
     base: &mut StateSet,
 ) -> bool
-    ensures { Applied (meaning model.now).states (step_f (meaning model.now) some s1.now s2.now (before joined.now k)) base.old base.new result }
+    ensures { Applied (M.meaning model.now).states (step_f (M.meaning model.now) some s1.now s2.now (before joined.now k)) base.old base.new result }
 {
     let mut changed = false;
     for s in 0..model.states() {
@@ -45,7 +45,7 @@ fn repeat<M: Model>(
 )
     requires base { base.old.marks ≡ replicate 4096 true }
     requires joined { joined.old.rounds ≡ replicate 4096 0 }
-    ensures { Recurring (meaning model.now) some right.now pass.now left.now joined.new }
+    ensures { Recurring (M.meaning model.now) some right.now pass.now left.now joined.new }
 {
     let n = model.states();
     for j in 0..n + 2 {
@@ -65,7 +65,7 @@ pub fn recurring<M: Model>(
     pass: &StateSet,
     left: &StateSet,
 ) -> Rounds
-    ensures { Recurring (meaning model.now) some right.now pass.now left.now result }
+    ensures { Recurring (M.meaning model.now) some right.now pass.now left.now result }
 {
     let mut base = StateSet::of(true);
     let mut joined = Rounds::of(0);
@@ -100,7 +100,7 @@ fn settle<M: Model>(
     joined: &mut Rounds,
 ) -> bool
     requires round { k < 65535 }
-    ensures { Round (meaning model.now).states (settled (meaning model.now) some right.now pass.now left.now) k joined.old joined.new result }
+    ensures { Round (M.meaning model.now).states (settled (M.meaning model.now) some right.now pass.now left.now) k joined.old joined.new result }
 {
     let _changed = apply(model, some, right, pass, joined, k, base);
     let gone = greatest(model, some, base, left);
@@ -118,7 +118,7 @@ fn extend<M: Model>(
     joined: &mut Rounds,
 )
     requires joined { joined.old.rounds ≡ replicate 4096 65535 }
-    ensures { Joins (meaning model.now).states (settled (meaning model.now) some right.now pass.now left.now) joined.new (suc (meaning model.now).states) }
+    ensures { Joins (M.meaning model.now).states (settled (M.meaning model.now) some right.now pass.now left.now) joined.new (suc (M.meaning model.now).states) }
 {
     for k in 0..model.states() + 1 {
         if !settle(model, some, right, pass, left, k, base, joined) {
@@ -136,7 +136,7 @@ pub fn settling<M: Model>(
     pass: &StateSet,
     left: &StateSet,
 ) -> Rounds
-    ensures { Joins (meaning model.now).states (settled (meaning model.now) some right.now pass.now left.now) result (suc (meaning model.now).states) }
+    ensures { Joins (M.meaning model.now).states (settled (M.meaning model.now) some right.now pass.now left.now) result (suc (M.meaning model.now).states) }
 {
     let mut base = StateSet::of(false);
     let mut joined = Rounds::of(NEVER);

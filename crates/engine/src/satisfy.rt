@@ -60,7 +60,7 @@ pub(crate) fn join_first(n: u16, set: &StateSet, joined: &mut Rounds)
 
 /// Marks the states with some step, or all steps, into those that joined before round 1.
 fn mark_pre<M: Model>(model: &M, some: bool, joined: &Rounds, set: &mut StateSet)
-    ensures { Holds (meaning model.now).states (pre (meaning model.now) (ours some) (before joined.now 1)) set.new }
+    ensures { Holds (M.meaning model.now).states (pre (M.meaning model.now) (ours some) (before joined.now 1)) set.new }
 {
     for s in 0..model.states() {
         let member = steps_into(model, some, s, joined, 1);
@@ -70,7 +70,7 @@ fn mark_pre<M: Model>(model: &M, some: bool, joined: &Rounds, set: &mut StateSet
 
 /// The least fixed point of F of S1 and S2.
 fn least_set<M: Model>(model: &M, some: bool, s1: &StateSet, s2: &StateSet) -> StateSet
-    ensures { Holds (meaning model.now).states (lfp (meaning model.now).states (step_f (meaning model.now) some s1.now s2.now)) result }
+    ensures { Holds (M.meaning model.now).states (lfp (M.meaning model.now).states (step_f (M.meaning model.now) some s1.now s2.now)) result }
 {
     let mut set = StateSet::of(false);
     let rounds = least(model, some, s1, s2);
@@ -80,7 +80,7 @@ fn least_set<M: Model>(model: &M, some: bool, s1: &StateSet, s2: &StateSet) -> S
 
 /// The states from which some walk, or every walk, comes to S1, whatever it passes.
 fn sometime<M: Model>(model: &M, some: bool, s1: &StateSet) -> StateSet
-    ensures { Holds (meaning model.now).states (lfp (meaning model.now).states (λ T. F (meaning model.now) (ours some) (members s1.now) full T)) result }
+    ensures { Holds (M.meaning model.now).states (lfp (M.meaning model.now).states (λ T. F (M.meaning model.now) (ours some) (members s1.now) full T)) result }
 {
     let all = StateSet::of(true);
     least_set(model, some, s1, &all)
@@ -88,7 +88,7 @@ fn sometime<M: Model>(model: &M, some: bool, s1: &StateSet) -> StateSet
 
 /// W at a level that reads sometime.
 fn either<M: Model>(model: &M, some: bool, left: &StateSet, right: &StateSet) -> StateSet
-    ensures { Holds (meaning model.now).states (sat_weak (meaning model.now) (ours some) (Some Sometime) (members left.now) (members right.now)) result }
+    ensures { Holds (M.meaning model.now).states (sat_weak (M.meaning model.now) (ours some) (Some Sometime) (members left.now) (members right.now)) result }
 {
     let mut both = StateSet::of(false);
     mark_union(model.states(), right, left, &mut both);
@@ -97,7 +97,7 @@ fn either<M: Model>(model: &M, some: bool, left: &StateSet, right: &StateSet) ->
 
 /// W at a level that reads always.
 fn always<M: Model>(model: &M, some: bool, left: &StateSet, right: &StateSet) -> StateSet
-    ensures { Holds (meaning model.now).states (sat_weak (meaning model.now) (ours some) (Some Always) (members left.now) (members right.now)) result }
+    ensures { Holds (M.meaning model.now).states (sat_weak (M.meaning model.now) (ours some) (Some Always) (members left.now) (members right.now)) result }
 {
     let mut set = StateSet::of(false);
     let rounds = greatest(model, some, right, left);
@@ -107,7 +107,7 @@ fn always<M: Model>(model: &M, some: bool, left: &StateSet, right: &StateSet) ->
 
 /// W at a level that reads eventually always.
 fn eventually<M: Model>(model: &M, some: bool, left: &StateSet, right: &StateSet) -> StateSet
-    ensures { Holds (meaning model.now).states (sat_weak (meaning model.now) (ours some) (Some EventuallyAlways) (members left.now) (members right.now)) result }
+    ensures { Holds (M.meaning model.now).states (sat_weak (M.meaning model.now) (ours some) (Some EventuallyAlways) (members left.now) (members right.now)) result }
 {
     let all = StateSet::of(true);
     let mut set = StateSet::of(false);
@@ -118,7 +118,7 @@ fn eventually<M: Model>(model: &M, some: bool, left: &StateSet, right: &StateSet
 
 /// W at a level that reads infinitely often.
 fn infinitely<M: Model>(model: &M, some: bool, left: &StateSet, right: &StateSet) -> StateSet
-    ensures { Holds (meaning model.now).states (sat_weak (meaning model.now) (ours some) (Some InfinitelyOften) (members left.now) (members right.now)) result }
+    ensures { Holds (M.meaning model.now).states (sat_weak (M.meaning model.now) (ours some) (Some InfinitelyOften) (members left.now) (members right.now)) result }
 {
     let all = StateSet::of(true);
     let mut set = StateSet::of(false);
@@ -129,7 +129,7 @@ fn infinitely<M: Model>(model: &M, some: bool, left: &StateSet, right: &StateSet
 
 /// X: the states with some step, or all steps, into the set.
 fn next<M: Model>(model: &M, some: bool, left: &StateSet) -> StateSet
-    ensures { Holds (meaning model.now).states (pre (meaning model.now) (ours some) (members left.now)) result }
+    ensures { Holds (M.meaning model.now).states (pre (M.meaning model.now) (ours some) (members left.now)) result }
 {
     let mut set = StateSet::of(false);
     let mut joined = Rounds::of(NEVER);
@@ -146,7 +146,7 @@ fn weak<M: Model>(
     left: &StateSet,
     right: &StateSet,
 ) -> StateSet
-    ensures { Holds (meaning model.now).states (sat_weak (meaning model.now) (ours some) (Some reading) (members left.now) (members right.now)) result }
+    ensures { Holds (M.meaning model.now).states (sat_weak (M.meaning model.now) (ours some) (Some reading) (members left.now) (members right.now)) result }
 {
     match reading {
         Reading::Sometime => either(model, some, left, right),
@@ -158,7 +158,7 @@ fn weak<M: Model>(
 
 /// G: W with nothing on the right.
 fn globally<M: Model>(model: &M, some: bool, reading: Reading, left: &StateSet) -> StateSet
-    ensures { Holds (meaning model.now).states (sat_weak (meaning model.now) (ours some) (Some reading) (members left.now) empty) result }
+    ensures { Holds (M.meaning model.now).states (sat_weak (M.meaning model.now) (ours some) (Some reading) (members left.now) empty) result }
 {
     let none = StateSet::of(false);
     weak(model, some, reading, left, &none)
@@ -174,7 +174,7 @@ pub fn satisfy<M: Model>(
     left: &StateSet,
     right: &StateSet,
 ) -> StateSet
-    ensures { Holds (meaning model.now).states (sat_path (meaning model.now) (ours some) (asked operator) (Some reading) (members left.now) (members right.now)) result }
+    ensures { Holds (M.meaning model.now).states (sat_path (M.meaning model.now) (ours some) (asked operator) (Some reading) (members left.now) (members right.now)) result }
 {
     match operator {
         Operator::Next => next(model, some, left),

@@ -17,8 +17,8 @@ use model::interface::Model;
 
 /// The step of `s` to a state of the least round.
 fn least_step<M: Model>(model: &M, s: u16, rank: &Rounds) -> u16
-    requires { HasStep (meaning model.now) s }
-    ensures { Goes (meaning model.now) (round_of rank.now) s result }
+    requires { HasStep (M.meaning model.now) s }
+    ensures { Goes (M.meaning model.now) (round_of rank.now) s result }
 {
     let Some(first) = model.least_step(s, 0) else {
         unreachable()
@@ -49,11 +49,11 @@ fn place_of(out: &[u16], i: u16, t: u16) -> Option<u16>
 
 /// Writes the walk from `s` that always goes to a least round: the lengths of its stem and of its loop.
 fn lasso<M: Model>(model: &M, s: u16, rank: &Rounds, out: &mut [u16]) -> (u16, u16)
-    requires inside { s < (meaning model.now).states }
-    requires total { Total (meaning model.now) }
-    requires room { (meaning model.now).states ≤ length out.old }
-    ensures written { Written (meaning model.now).states out.old out.new result.0 result.1 }
-    ensures followed { Followed (meaning model.now) (round_of rank.now) s (endless out.new result.0 result.1) }
+    requires inside { s < (M.meaning model.now).states }
+    requires total { Total (M.meaning model.now) }
+    requires room { (M.meaning model.now).states ≤ length out.old }
+    ensures written { Written (M.meaning model.now).states out.old out.new result.0 result.1 }
+    ensures followed { Followed (M.meaning model.now) (round_of rank.now) s (endless out.new result.0 result.1) }
 {
     let n = model.states();
     let mut t = s;
@@ -79,8 +79,8 @@ fn seek<M: Model>(
     c: &StateSet,
     settles: bool,
 ) -> Rounds
-    ensures guides { Guides (meaning model.now) (asked operator) (task (members a.now) (members b.now) (members c.now) settles) (round_of result) }
-    ensures find { (s : ℕ) → s < (meaning model.now).states → found_by (meaning model.now) (asked operator) result s ≡ sought (meaning model.now) (asked operator) (task (members a.now) (members b.now) (members c.now) settles) s }
+    ensures guides { Guides (M.meaning model.now) (asked operator) (task (members a.now) (members b.now) (members c.now) settles) (round_of result) }
+    ensures find { (s : ℕ) → s < (M.meaning model.now).states → found_by (M.meaning model.now) (asked operator) result s ≡ sought (M.meaning model.now) (asked operator) (task (members a.now) (members b.now) (members c.now) settles) s }
 {
     if let Operator::Next = operator {
         let mut joined = Rounds::of(NEVER);
@@ -95,8 +95,8 @@ fn seek<M: Model>(
 
 /// Is `s` found by the rounds that guide the walk?
 fn finds<M: Model>(model: &M, operator: Operator, rounds: &Rounds, s: u16) -> bool
-    requires { s < (meaning model.now).states }
-    ensures { result ≡ found_by (meaning model.now) (asked operator) rounds.now s }
+    requires { s < (M.meaning model.now).states }
+    ensures { result ≡ found_by (M.meaning model.now) (asked operator) rounds.now s }
 {
     if let Operator::Next = operator {
         steps_into(model, true, s, rounds, 1)
@@ -118,10 +118,10 @@ pub fn search<M: Model>(
     s: u16,
     out: &mut [u16],
 ) -> Option<(u16, u16)>
-    requires inside { s < (meaning model.now).states }
-    requires total { Total (meaning model.now) }
-    requires room { (meaning model.now).states ≤ length out.old }
-    ensures { Searched (meaning model.now) (asked operator) (task (members a.now) (members b.now) (members c.now) settles) s out.old out.new result }
+    requires inside { s < (M.meaning model.now).states }
+    requires total { Total (M.meaning model.now) }
+    requires room { (M.meaning model.now).states ≤ length out.old }
+    ensures { Searched (M.meaning model.now) (asked operator) (task (members a.now) (members b.now) (members c.now) settles) s out.old out.new result }
 {
     let rounds = seek(model, operator, a, b, c, settles);
     if finds(model, operator, &rounds, s) {

@@ -9,7 +9,7 @@ use model::interface::Model;
 
 /// Does some step of `s`, or does every step, lead to a state that joined before round `k`?
 pub fn steps_into<M: Model>(model: &M, some: bool, s: u16, joined: &Rounds, k: u16) -> bool
-    ensures { result ≡ pre (meaning model.now) (ours some) (before joined.now k) s }
+    ensures { result ≡ pre (M.meaning model.now) (ours some) (before joined.now k) s }
 {
     let mut t: u16 = 0;
     while let Some(u) = model.least_step(s, t) {
@@ -31,7 +31,7 @@ pub fn in_f<M: Model>(
     t: &Rounds,
     k: u16,
 ) -> bool
-    ensures { result ≡ F (meaning model.now) (ours some) (members s1.now) (members s2.now) (before t.now k) s }
+    ensures { result ≡ F (M.meaning model.now) (ours some) (members s1.now) (members s2.now) (before t.now k) s }
 {
     s1.has(s) || s2.has(s) && steps_into(model, some, s, t, k)
 }
@@ -48,7 +48,7 @@ pub fn in_g<M: Model>(
     t2: &Rounds,
     j: u16,
 ) -> bool
-    ensures { result ≡ G (meaning model.now) (ours some) (members s1.now) (members s2.now) (before t1.now k) (before t2.now j) s }
+    ensures { result ≡ G (M.meaning model.now) (ours some) (members s1.now) (members s2.now) (before t1.now k) (before t2.now j) s }
 {
     s1.has(s) || steps_into(model, some, s, t1, k) || s2.has(s) && steps_into(model, some, s, t2, j)
 }

@@ -24,10 +24,10 @@ pub fn show<M: Model>(
     s: u16,
     out: &mut [u16],
 ) -> Option<(u16, u16)>
-    requires inside { s < (meaning model.now).states }
-    requires total { Total (meaning model.now) }
-    requires room { (meaning model.now).states ≤ length out.old }
-    ensures { ShownBy (meaning model.now) (quantifier some) (asked operator) reading (members left.now) (members right.now) s out.old out.new result }
+    requires inside { s < (M.meaning model.now).states }
+    requires total { Total (M.meaning model.now) }
+    requires room { (M.meaning model.now).states ≤ length out.old }
+    ensures { ShownBy (M.meaning model.now) (quantifier some) (asked operator) reading (members left.now) (members right.now) s out.old out.new result }
 {
     let task = task_of(model.states(), some, operator, reading, left, right);
     search(

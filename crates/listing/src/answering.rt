@@ -44,7 +44,7 @@ fn script(text: &[u8]) -> Result<Script, TextFault>
 
 /// Answers the asks of a script over a model, on the scale with so many levels.
 fn on_scale<M: Model>(model: &M, levels: u8, body: &Body) -> Result<Kept<Answer, 8>, TextFault>
-    ensures { listed result ≡ ask_all (meaning model.now) (grades_of levels) (said_in body.now) }
+    ensures { listed result ≡ ask_all (M.meaning model.now) (grades_of levels) (said_in body.now) }
 {
     if levels == 1 {
         run(model, &Boolean, body)

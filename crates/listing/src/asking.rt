@@ -48,7 +48,7 @@ fn enter_all<M: Model, S: Scale>(
     bytes: &mut [u8],
     rows: &[Row],
 ) -> Result<(), SheetFault>
-    ensures { entered result (seen sheet.new records.new bytes.new) ≡ enter_all (meaning model.now) (grades scale.now) (seen sheet.old records.old bytes.old) rows.now }
+    ensures { entered result (seen sheet.new records.new bytes.new) ≡ enter_all (M.meaning model.now) (S.grades scale.now) (seen sheet.old records.old bytes.old) rows.now }
 {
     for row in rows {
         sheet.enter(model, scale, records, bytes, *row)?;
@@ -66,7 +66,7 @@ fn ask_one<M: Model, S: Scale>(
     rows: &[Row],
     ask: Ask,
 ) -> Result<Answer, SheetFault>
-    ensures { asked result (seen sheet.new records.new bytes.new) ≡ ask_one (meaning model.now) (grades scale.now) (seen sheet.old records.old bytes.old) rows.now ask }
+    ensures { asked result (seen sheet.new records.new bytes.new) ≡ ask_one (M.meaning model.now) (S.grades scale.now) (seen sheet.old records.old bytes.old) rows.now ask }
 {
     enter_all(sheet, model, scale, records, bytes, rows)?;
     let degree = sheet.degree(bytes, ask.row, ask.state)?;
@@ -88,7 +88,7 @@ fn ask_next<M: Model, S: Scale>(
     ask: Ask,
     line: usize,
 ) -> Result<Answer, AtLine>
-    ensures { asked_at result (seen sheet.new records.new bytes.new) ≡ told_at line (ask_one (meaning model.now) (grades scale.now) (seen sheet.old records.old bytes.old) (between entered (ask.row + 1) rows.now) ask) }
+    ensures { asked_at result (seen sheet.new records.new bytes.new) ≡ told_at line (ask_one (M.meaning model.now) (S.grades scale.now) (seen sheet.old records.old bytes.old) (between entered (ask.row + 1) rows.now) ask) }
 {
     let rows = part(rows, entered, ask.row as usize + 1);
     at_line(
@@ -109,7 +109,7 @@ fn ask_all<M: Model, S: Scale>(
     first: usize,
 ) -> Result<Kept<Answer, 8>, TextFault>
     requires { (first ≤ 4096) × (length asks.now ≤ 8) }
-    ensures { listed result ≡ ask_from (meaning model.now) (grades scale.now) rows.now (seen sheet.old records.old bytes.old) 0 first [] asks.now }
+    ensures { listed result ≡ ask_from (M.meaning model.now) (S.grades scale.now) rows.now (seen sheet.old records.old bytes.old) 0 first [] asks.now }
 {
     let mut done = Kept::new(Answer {
         state: 0,
@@ -134,7 +134,7 @@ pub(crate) fn run<M: Model, S: Scale>(
     scale: &S,
     body: &Body,
 ) -> Result<Kept<Answer, 8>, TextFault>
-    ensures { listed result ≡ ask_all (meaning model.now) (grades scale.now) (said_in body.now) }
+    ensures { listed result ≡ ask_all (M.meaning model.now) (S.grades scale.now) (said_in body.now) }
 {
     let mut sheet = at_line(Sheet::open(model, scale), 2)?;
     let mut records = [Row {

@@ -8,8 +8,8 @@ use crate::interface::Model;
 
 /// Has the model states, and has each a step? If not, the fault, with the lowest state that has none.
 pub fn walkable<M: Model>(model: &M) -> Result<(), ModelFault>
-    ensures means { Checked (meaning model.now) result }
-    ensures exact { answer result ≡ walkability (meaning model.now) }
+    ensures means { Checked (M.meaning model.now) result }
+    ensures exact { answer result ≡ walkability (M.meaning model.now) }
 {
     let n = model.states();
     if n == 0 {

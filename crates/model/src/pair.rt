@@ -36,8 +36,8 @@ fn joined(a: Size, b: Size) -> Size
 /// The least state of a pair from `t` on to which its first part steps from `i`, while the second, of `width` states,
 /// waits in `j`.
 fn first_steps<M: FiniteModel>(part: &M, width: u16, i: u16, j: u16, t: u16) -> Option<u16>
-    requires { (j < width) × ((meaning part.now).states * width ≤ 4096) }
-    ensures { Least (λ u. (u % width == j) && (meaning part.now).step i (u / width)) t result }
+    requires { (j < width) × ((M.meaning part.now).states * width ≤ 4096) }
+    ensures { Least (λ u. (u % width == j) && (M.meaning part.now).step i (u / width)) t result }
 {
     let from = t.saturating_sub(j).div_ceil(width);
     match part.least_step(i, from) {
@@ -49,8 +49,8 @@ fn first_steps<M: FiniteModel>(part: &M, width: u16, i: u16, j: u16, t: u16) -> 
 /// The least state of a pair from `t` on to which its second part, of `width` states, steps from `j`, while the first
 /// waits in `i`.
 fn second_steps<M: FiniteModel>(part: &M, width: u16, i: u16, j: u16, t: u16) -> Option<u16>
-    requires { ((meaning part.now).states ≡ width) × (0 < width) × (i * width + width ≤ 4096) }
-    ensures { Least (λ u. (u / width == i) && (meaning part.now).step j (u % width)) t result }
+    requires { ((M.meaning part.now).states ≡ width) × (0 < width) × (i * width + width ≤ 4096) }
+    ensures { Least (λ u. (u / width == i) && (M.meaning part.now).step j (u % width)) t result }
 {
     let low = i * width;
     match part.least_step(j, t.saturating_sub(low)) {

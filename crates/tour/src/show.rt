@@ -62,7 +62,7 @@ fn holdings<M: Model>(rt: &HostRuntime, model: &M) -> io::Result<()> {
 
 /// In how many states a proposition holds.
 fn count<M: Model>(model: &M, p: u8) -> u16
-    ensures { result ≡ tally (meaning model.now).states ((meaning model.now).holds p) }
+    ensures { result ≡ tally (M.meaning model.now).states ((M.meaning model.now).holds p) }
 {
     let mut k = 0;
     for s in 0..model.states() {

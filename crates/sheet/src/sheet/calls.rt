@@ -19,7 +19,7 @@ use scale::scales::Scale;
 impl Sheet {
     /// A sheet without rows over a model and a scale.
     pub fn open<M: Model, S: Scale>(model: &M, scale: &S) -> Result<Sheet, SheetFault>
-        ensures { (rs : List Record) (bs : List ℕ) → seen_in result rs bs ≡ open_answer (meaning model.now) (grades scale.now) rs bs }
+        ensures { (rs : List Record) (bs : List ℕ) → seen_in result rs bs ≡ open_answer (M.meaning model.now) (S.grades scale.now) rs bs }
     {
         walkable(model)?;
         let size = model.size();
@@ -40,9 +40,9 @@ impl Sheet {
         bytes: &mut [u8],
         row: Row,
     ) -> Result<u8, SheetFault>
-        ensures answers { answer result ≡ enter_answer (meaning model.now) (grades scale.now) (seen self.old rows.old bytes.old) row }
-        ensures sets { (n : ℕ) → result ≡ Ok n → RowReaches (meaning model.now) (grades scale.now) (seen self.old rows.old bytes.old) row (seen self.new rows.new bytes.new) n }
-        ensures leaves { seen self.new rows.new bytes.new ≡ enter_leaves (meaning model.now) (grades scale.now) (seen self.old rows.old bytes.old) row }
+        ensures answers { answer result ≡ enter_answer (M.meaning model.now) (S.grades scale.now) (seen self.old rows.old bytes.old) row }
+        ensures sets { (n : ℕ) → result ≡ Ok n → RowReaches (M.meaning model.now) (S.grades scale.now) (seen self.old rows.old bytes.old) row (seen self.new rows.new bytes.new) n }
+        ensures leaves { seen self.new rows.new bytes.new ≡ enter_leaves (M.meaning model.now) (S.grades scale.now) (seen self.old rows.old bytes.old) row }
     {
         self.check(model, scale, rows, bytes, row)?;
         let degrees = self.work_out(model, scale, bytes, row);
@@ -104,8 +104,8 @@ impl Sheet {
         level: u8,
         out: &mut [u16],
     ) -> Result<(u16, u16), SheetFault>
-        ensures exact { Walks (meaning model.now) (grades scale.now) (seen self.now rows.now bytes.now) row state level out.old out.new (answer result) }
-        ensures law { WalkIsTrue (seen self.now rows.now bytes.now) row state level out.old out.new (answer result) (meaning model.now) (grades scale.now) }
+        ensures exact { Walks (M.meaning model.now) (S.grades scale.now) (seen self.now rows.now bytes.now) row state level out.old out.new (answer result) }
+        ensures law { WalkIsTrue (seen self.now rows.now bytes.now) row state level out.old out.new (answer result) (M.meaning model.now) (S.grades scale.now) }
     {
         self.find_walk(model, scale, rows, bytes, row, state, level, out)
     }

@@ -17,8 +17,8 @@ use scale::scales::Scale;
 impl Sheet {
     /// Are the model and the scale of the sheet's size?
     pub(crate) fn fits<M: Model, S: Scale>(&self, model: &M, scale: &S) -> Result<(), SheetFault>
-        ensures known { result ≡ Ok tt → ((meaning model.now).states ≡ self.now.states) × ((grades scale.now).levels ≡ self.now.levels) }
-        ensures exact { (rs : List Record) (bs : List ℕ) → answer result ≡ fitting (seen self.now rs bs) (meaning model.now) (grades scale.now) }
+        ensures known { result ≡ Ok tt → ((M.meaning model.now).states ≡ self.now.states) × ((S.grades scale.now).levels ≡ self.now.levels) }
+        ensures exact { (rs : List Record) (bs : List ℕ) → answer result ≡ fitting (seen self.now rs bs) (M.meaning model.now) (S.grades scale.now) }
     {
         let size = model.size();
         if size.states != self.states || size.props != self.props || scale.levels() != self.levels {
@@ -98,8 +98,8 @@ impl Sheet {
         bytes: &[u8],
         row: Row,
     ) -> Result<(), SheetFault>
-        ensures known { result ≡ Ok tt → Ready (meaning model.now) (grades scale.now) self.now rows.now bytes.now row }
-        ensures exact { answer result ≡ entering (meaning model.now) (grades scale.now) (seen self.now rows.now bytes.now) row }
+        ensures known { result ≡ Ok tt → Ready (M.meaning model.now) (S.grades scale.now) self.now rows.now bytes.now row }
+        ensures exact { answer result ≡ entering (M.meaning model.now) (S.grades scale.now) (seen self.now rows.now bytes.now) row }
     {
         self.fits(model, scale)?;
         walkable(model)?;

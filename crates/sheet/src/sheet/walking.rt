@@ -83,8 +83,8 @@ impl Sheet {
         level: u8,
         room: usize,
     ) -> Result<(), SheetFault>
-        ensures known { result ≡ Ok tt → ReadyToWalk (meaning model.now) (grades scale.now) self.now rows.now bytes.now row state level room }
-        ensures exact { answer result ≡ walking (meaning model.now) (grades scale.now) (seen self.now rows.now bytes.now) row state level room }
+        ensures known { result ≡ Ok tt → ReadyToWalk (M.meaning model.now) (S.grades scale.now) self.now rows.now bytes.now row state level room }
+        ensures exact { answer result ≡ walking (M.meaning model.now) (S.grades scale.now) (seen self.now rows.now bytes.now) row state level room }
     {
         self.fits(model, scale)?;
         walkable(model)?;
@@ -104,10 +104,10 @@ impl Sheet {
         level: u8,
         out: &mut [u16],
     ) -> Option<(u16, u16)>
-        requires sizes { ((meaning model.now).states ≡ self.now.states) × ((grades scale.now).levels ≡ self.now.levels) × Total (meaning model.now) }
+        requires sizes { ((M.meaning model.now).states ≡ self.now.states) × ((S.grades scale.now).levels ≡ self.now.levels) × Total (M.meaning model.now) }
         requires request { (state < self.now.states) × (1 ≤ level) × (level ≤ self.now.levels) × (6 ≤ row.kind) × Earlier self.now row }
         requires room { (self.now.rows * self.now.states ≤ length bytes.now) × (self.now.states ≤ length out.old) }
-        ensures { (rs : List Record) → Seeks (meaning model.now) (WantedBy (grades scale.now) (seen self.now rs bytes.now) row level) state out.old out.new result }
+        ensures { (rs : List Record) → Seeks (M.meaning model.now) (WantedBy (S.grades scale.now) (seen self.now rs bytes.now) row level) state out.old out.new result }
     {
         let left = self.reaching(bytes, row.a, level);
         let right = self.second_reaching(bytes, row, level);
@@ -138,7 +138,7 @@ impl Sheet {
         level: u8,
         out: &mut [u16],
     ) -> Result<(u16, u16), SheetFault>
-        ensures { Walks (meaning model.now) (grades scale.now) (seen self.now rows.now bytes.now) row state level out.old out.new (answer result) }
+        ensures { Walks (M.meaning model.now) (S.grades scale.now) (seen self.now rows.now bytes.now) row state level out.old out.new (answer result) }
     {
         self.check_walk(model, scale, rows, bytes, row, state, level, out.len())?;
         match self.seek(model, scale, bytes, rows[row as usize], state, level, out) {

@@ -23,7 +23,7 @@ use scale::scales::Scale;
 /// The degree of a row that asks for no walk, at a state where its operands have these degrees.
 fn degree_at<M: Model, S: Scale>(model: &M, scale: &S, row: Row, s: u16, a: u8, b: u8) -> u8
     requires { (1 ≤ row.kind) × (row.kind ≤ 5) }
-    ensures { (f h : ℕ → ℕ) → f s ≡ a → h s ≡ b → result ≡ row_degree (meaning model.now) (grades scale.now) (kind_of row.kind row.a) f h s }
+    ensures { (f h : ℕ → ℕ) → f s ≡ a → h s ≡ b → result ≡ row_degree (M.meaning model.now) (S.grades scale.now) (kind_of row.kind row.a) f h s }
 {
     let top = scale.levels();
     match row.kind {
@@ -111,8 +111,8 @@ impl Sheet {
         row: Row,
         level: u8,
     ) -> StateSet
-        requires { (self.now.rows * self.now.states ≤ length bytes.now) × (1 ≤ level) × (level ≤ (grades scale.now).levels) × (6 ≤ row.kind) × Earlier self.now row }
-        ensures { (rs : List Record) → Holds (meaning model.now).states (reaches (meaning model.now) (grades scale.now) (seen self.now rs bytes.now) row level) result }
+        requires { (self.now.rows * self.now.states ≤ length bytes.now) × (1 ≤ level) × (level ≤ (S.grades scale.now).levels) × (6 ≤ row.kind) × Earlier self.now row }
+        ensures { (rs : List Record) → Holds (M.meaning model.now).states (reaches (M.meaning model.now) (S.grades scale.now) (seen self.now rs bytes.now) row level) result }
     {
         let left = self.reaching(bytes, row.a, level);
         let right = self.second_reaching(bytes, row, level);
@@ -131,8 +131,8 @@ impl Sheet {
 
     /// The degrees of a row of kind 6 to 15, level by level.
     fn by_levels<M: Model, S: Scale>(&self, model: &M, scale: &S, bytes: &[u8], row: Row) -> Degrees
-        requires { (self.now.rows * self.now.states ≤ length bytes.now) × ((meaning model.now).states ≡ self.now.states) × ((grades scale.now).levels ≡ self.now.levels) × (6 ≤ row.kind) × Earlier self.now row }
-        ensures { (rs : List Record) (s : ℕ) → s < self.now.states → slice_index result.of s ≡ highest self.now.levels (λ l. reaches (meaning model.now) (grades scale.now) (seen self.now rs bytes.now) row l s) }
+        requires { (self.now.rows * self.now.states ≤ length bytes.now) × ((M.meaning model.now).states ≡ self.now.states) × ((S.grades scale.now).levels ≡ self.now.levels) × (6 ≤ row.kind) × Earlier self.now row }
+        ensures { (rs : List Record) (s : ℕ) → s < self.now.states → slice_index result.of s ≡ highest self.now.levels (λ l. reaches (M.meaning model.now) (S.grades scale.now) (seen self.now rs bytes.now) row l s) }
     {
         let mut degrees = Degrees { of: [0; 4096] };
         for below in 0..self.levels {
@@ -167,7 +167,7 @@ impl Sheet {
     /// The degrees of a row of kind 1 to 5, state by state.
     fn by_states<M: Model, S: Scale>(&self, model: &M, scale: &S, bytes: &[u8], row: Row) -> Degrees
         requires { (self.now.rows * self.now.states ≤ length bytes.now) × (row.kind ≤ 5) × Earlier self.now row }
-        ensures { (rs : List Record) (s : ℕ) → s < self.now.states → slice_index result.of s ≡ degrees_of (meaning model.now) (grades scale.now) (seen self.now rs bytes.now) row s }
+        ensures { (rs : List Record) (s : ℕ) → s < self.now.states → slice_index result.of s ≡ degrees_of (M.meaning model.now) (S.grades scale.now) (seen self.now rs bytes.now) row s }
     {
         let mut degrees = Degrees { of: [0; 4096] };
         for s in 0..self.states {
@@ -186,8 +186,8 @@ impl Sheet {
         bytes: &[u8],
         row: Row,
     ) -> Degrees
-        requires { (self.now.rows * self.now.states ≤ length bytes.now) × ((meaning model.now).states ≡ self.now.states) × ((grades scale.now).levels ≡ self.now.levels) × Earlier self.now row }
-        ensures { (rs : List Record) (s : ℕ) → s < self.now.states → slice_index result.of s ≡ degrees_of (meaning model.now) (grades scale.now) (seen self.now rs bytes.now) row s }
+        requires { (self.now.rows * self.now.states ≤ length bytes.now) × ((M.meaning model.now).states ≡ self.now.states) × ((S.grades scale.now).levels ≡ self.now.levels) × Earlier self.now row }
+        ensures { (rs : List Record) (s : ℕ) → s < self.now.states → slice_index result.of s ≡ degrees_of (M.meaning model.now) (S.grades scale.now) (seen self.now rs bytes.now) row s }
     {
         if row.kind <= 5 {
             return self.by_states(model, scale, bytes, row);

@@ -3,12 +3,12 @@ use Rattle.model.specs.Walkable.{HasStep, Checked}
 use Rattle.model.specs.declared.fault.ModelFault.TheVariants.{NoStates, DeadEnd}
 use Rattle.model.proofs.Walked.{found-step, no_step, exact}
 use Rattle.model.proofs.check.walkable.Goals as goal
-use Rattle.model.proofs.check.walkable.Goals.{then-s-n-via-then-s-n, then-s-n-via-else-s-n+then-is-none}
+use Rattle.model.proofs.check.walkable.Goals.{then-s-n-via-then-s-n, then-s-n-via-else-s-n+then-is_none}
 
 pub loop-s-preserved : goal.loop-s-preserved
 loop-s-preserved g c =
-    let t : is_some c.least-step.result ≡ true = search rules in
-    (omega arith, below_more _ _ c.loop-s.invariant.1 (found-step (g.M.Model.meaning c.args.model.now) c.loop-s.s _ c.least-step.result c.least-step.ensures t))
+    let t : is_some c.least_step.result ≡ true = search rules in
+    (omega arith, below_more _ _ c.loop-s.invariant.1 (found-step (g.M.Model.meaning c.args.model.now) c.loop-s.s _ c.least_step.result c.least_step.ensures t))
 
 pub returns-then-stuck-n : goal.returns-then-stuck-n
 returns-then-stuck-n g c =
@@ -17,7 +17,7 @@ returns-then-stuck-n g c =
       omega arith,
       elim c.then-s-n.branch [
         | then-s-n-via-then-s-n w ↦ absurd (omega (arith, w.if-s-n.true))
-        | then-s-n-via-else-s-n+then-is-none w ↦ let t : is_some w.least-step.result ≡ false = search rules in no_step m c.loop-s.s w.least-step.result w.least-step.ensures t
+        | then-s-n-via-else-s-n+then-is_none w ↦ let t : is_some w.least_step.result ≡ false = search rules in no_step m c.loop-s.s w.least_step.result w.least_step.ensures t
       ],
       c.loop-s.invariant.1,
     ) in

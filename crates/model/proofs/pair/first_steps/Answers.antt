@@ -10,18 +10,18 @@ inside g c =
     ((g.M.Model.lawful c.args.part.now).steps_to c.args.i c.in-Some.k c.in-Some.ensures.1) c.requires.0 in
     omega arith
 
-pub overflow-add-result : goal.overflow-add-result
-overflow-add-result g c = omega (arith, inside g c)
+pub overflow_add-result : goal.overflow_add-result
+overflow_add-result g c = omega (arith, inside g c)
 
-pub overflow-mul-result : goal.overflow-mul-result
-overflow-mul-result g c = omega (arith, inside g c)
+pub overflow_mul-result : goal.overflow_mul-result
+overflow_mul-result g c = omega (arith, inside g c)
 
 pub returns-in-Some : goal.returns-in-Some
 returns-in-Some g c =
-    least_quotient c.args.t c.args.j c.args.width c.saturating-sub.result c.div-ceil-from.result c.requires.0 c.saturating-sub.ensures c.div-ceil-from.ensures
+    least_quotient c.args.t c.args.j c.args.width c.saturating_sub.result c.div_ceil-from.result c.requires.0 c.saturating_sub.ensures c.div_ceil-from.ensures
     ((g.M.Model.meaning c.args.part.now).step c.args.i) (Some c.in-Some.k) c.in-Some.ensures
 
 pub returns-in-None : goal.returns-in-None
 returns-in-None g c =
-    least_quotient c.args.t c.args.j c.args.width c.saturating-sub.result c.div-ceil-from.result c.requires.0 c.saturating-sub.ensures c.div-ceil-from.ensures
+    least_quotient c.args.t c.args.j c.args.width c.saturating_sub.result c.div_ceil-from.result c.requires.0 c.saturating_sub.ensures c.div_ceil-from.ensures
     ((g.M.Model.meaning c.args.part.now).step c.args.i) None c.in-None.ensures

@@ -5,5 +5,5 @@ use Rattle.model.proofs.pool.digit_of.Goals as goal
 pub pow-requires : goal.pow-requires
 pow-requires c = omega (arith, weight_few c.args.i c.requires)
 
-pub nonzero-div-result : goal.nonzero-div-result
-nonzero-div-result c = omega (arith, weight_few c.args.i c.requires)
+pub nonzero_div-result : goal.nonzero_div-result
+nonzero_div-result c = omega (arith, weight_few c.args.i c.requires)

@@ -4,8 +4,8 @@ use Rattle.model.specs.Pairs.{paired, first_steps, second_steps}
 use Rattle.model.proofs.Paired.{row_fits, whole, wide, paired-least}
 use Rattle.model.proofs.pair.PairFiniteModel.least_step.Goals as goal
 
-pub second-steps-requires : goal.second-steps-requires
-second-steps-requires g c =
+pub second_steps-requires : goal.second_steps-requires
+second_steps-requires g c =
     let a = g.A.Model.meaning c.args.self.now.first in
     let b = g.B.Model.meaning c.args.self.now.second in
     let same : c.joined.result.states ≡ (paired a b).states = search rules in
@@ -20,7 +20,7 @@ returns g c =
     let b = g.B.Model.meaning c.args.self.now.second in
     let same : c.joined.result.states ≡ (paired a b).states = search rules in
     let lt : c.args.s < (paired a b).states = omega arith in
-    subst (Least _ c.args.t) (sym c.lesser-of.ensures)
-    (paired-least a b (g.A.Model.lawful _) (g.B.Model.lawful _) c.args.s lt c.args.t c.first-steps.result c.second-steps.result
-    (subst (λ n. Least (λ u. eqb (u % n) (c.args.s % n) && a.step (c.args.s / n) (u / n)) c.args.t c.first-steps.result) c.size-b.ensures.states c.first-steps.ensures)
-    (subst (λ n. Least (λ u. eqb (u / n) (c.args.s / n) && b.step (c.args.s % n) (u % n)) c.args.t c.second-steps.result) c.size-b.ensures.states c.second-steps.ensures))
+    subst (Least _ c.args.t) (sym c.lesser_of.ensures)
+    (paired-least a b (g.A.Model.lawful _) (g.B.Model.lawful _) c.args.s lt c.args.t c.first_steps.result c.second_steps.result
+    (subst (λ n. Least (λ u. eqb (u % n) (c.args.s % n) && a.step (c.args.s / n) (u / n)) c.args.t c.first_steps.result) c.size-b.ensures.states c.first_steps.ensures)
+    (subst (λ n. Least (λ u. eqb (u / n) (c.args.s / n) && b.step (c.args.s % n) (u % n)) c.args.t c.second_steps.result) c.size-b.ensures.states c.second_steps.ensures))

@@ -9,9 +9,9 @@ use Rattle.model.proofs.pool.Pool.turn.Goals as goal
 turned : (x : Thread) (d d' e : ℕ) → d ≡ d' → e ≡ cond (holder x d) (d - share x) (d + share x) → e ≡ cond (holder x d') (d' - share x) (d' + share x)
 turned x d d' e same h = h ∙ ap (λ n. cond (holder x n) (n - share x) (n + share x)) same
 
-pub with-digit-u-requires : goal.with-digit-u-requires
-with-digit-u-requires c =
-    let m = moves_to c.args.x (digit c.args.i c.args.s) c.moved-e.result (omega arith) (turned _ _ _ _ c.digit-of.ensures c.moved-e.ensures) in
+pub with_digit-u-requires : goal.with_digit-u-requires
+with_digit-u-requires c =
+    let m = moves_to c.args.x (digit c.args.i c.args.s) c.moved-e.result (omega arith) (turned _ _ _ _ c.digit_of.ensures c.moved-e.ensures) in
     let f = few c.args.self.now.buffers c.requires.1 in
     (omega arith, omega arith, m.1)
 
@@ -20,19 +20,19 @@ returns-then-forbids c =
     λ u h e.
     let no = and_parts (eqb c.args.self.now.guard 1) (eqb c.moved-e.result 3) (sym c.if-forbids.ensures) in
     leads-guarded c.args.self.now.buffers c.args.self.now.guard c.args.x c.args.i c.args.s c.moved-e.result
-    (turned _ _ _ _ c.digit-of.ensures c.moved-e.ensures) u e (eqb-true _ _ no.0) (eqb-true _ _ no.1)
+    (turned _ _ _ _ c.digit_of.ensures c.moved-e.ensures) u e (eqb-true _ _ no.0) (eqb-true _ _ no.1)
 
 pub returns-then-u-t : goal.returns-then-u-t
 returns-then-u-t c =
     λ u h e. let same = leads_only c.args.self.now.buffers c.args.self.now.guard c.args.x c.args.i c.args.s c.moved-e.result
-    (turned _ _ _ _ c.digit-of.ensures c.moved-e.ensures) c.with-digit-u.result c.requires.0 c.requires.2 c.with-digit-u.ensures u e in omega arith
+    (turned _ _ _ _ c.digit_of.ensures c.moved-e.ensures) c.with_digit-u.result c.requires.0 c.requires.2 c.with_digit-u.ensures u e in omega arith
 
 pub returns-else-u-t : goal.returns-else-u-t
 returns-else-u-t c =
-    let t = turned _ _ _ _ c.digit-of.ensures c.moved-e.ensures in (
+    let t = turned _ _ _ _ c.digit_of.ensures c.moved-e.ensures in (
       c.if-u-t.false,
       leads_there c.args.self.now.buffers c.args.self.now.guard c.args.x c.args.i c.args.s c.moved-e.result
-          t c.with-digit-u.result c.requires.0 c.requires.2 c.with-digit-u.ensures (λ g e. let ok = c.if-forbids.ensures in both_ways _ (sym ok) (and_from _ _ (eq-eqb _ _ g) (eq-eqb _ _ e))),
+          t c.with_digit-u.result c.requires.0 c.requires.2 c.with_digit-u.ensures (λ g e. let ok = c.if-forbids.ensures in both_ways _ (sym ok) (and_from _ _ (eq-eqb _ _ g) (eq-eqb _ _ e))),
       λ v h less e. let same = leads_only c.args.self.now.buffers c.args.self.now.guard c.args.x c.args.i c.args.s c.moved-e.result
-          t c.with-digit-u.result c.requires.0 c.requires.2 c.with-digit-u.ensures v e in omega arith,
+          t c.with_digit-u.result c.requires.0 c.requires.2 c.with_digit-u.ensures v e in omega arith,
     )

@@ -11,7 +11,7 @@ use Rattle.model.proofs.pool.PoolFiniteModel.least_step.Goals as goal
 pub loop-i-preserved : goal.loop-i-preserved
 loop-i-preserved c =
     let k = c.args.self.now.buffers in let g = c.args.self.now.guard in let s = c.args.s in let i = c.loop-i.i in
-    subst (Least _ c.args.t) (sym (c.lesser-of-least-in-loop-i.ensures ∙ ap (λ r. lesser_of r c.turn-in-loop-i.result) c.lesser-of-least.ensures))
+    subst (Least _ c.args.t) (sym (c.lesser_of-least-in-loop-i.ensures ∙ ap (λ r. lesser_of r c.turn-in-loop-i.result) c.lesser_of-least.ensures))
     (buffer_more (4 ^ k) i c.args.t (leads k g A i s) (leads k g B i s) (λ j u. leads k g A j s u || leads k g B j s u)
     c.loop-i.least c.turn.result c.turn-in-loop-i.result c.loop-i.invariant c.turn.ensures c.turn-in-loop-i.ensures (λ u. refl))
 

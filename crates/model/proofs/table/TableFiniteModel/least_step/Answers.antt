@@ -12,7 +12,7 @@ loop-e-preserved c =
     elim c.if-e-s.branch [
       | then-e-s+then-e-t+then-e-n w ↦
           entry-counts c.args.self.now.steps.now c.size-n.result.states c.args.s c.loop-e.e-index c.loop-e-test.true c.args.t
-          c.loop-e.least c.if-e-s.least (w.least-is ∙ w.lesser-of-least.ensures) w.if-e-s.true (omega (arith, w.if-e-t.true)) (omega (arith, w.if-e-n.true)) c.loop-e.invariant
+          c.loop-e.least c.if-e-s.least (w.least-is ∙ w.lesser_of-least.ensures) w.if-e-s.true (omega (arith, w.if-e-t.true)) (omega (arith, w.if-e-n.true)) c.loop-e.invariant
       | else-e-s w ↦
           entry_counts_not c.args.self.now.steps.now c.size-n.result.states c.args.s c.loop-e.e-index c.loop-e-test.true c.args.t
           c.loop-e.least c.if-e-s.least w.least-is (λ f h b. elim w.else-e-s.branch [

@@ -1,5 +1,6 @@
 //! Fixed points over any model, on sets on the stack.
 #![tactic(auto)]
+
 pub mod greatest;
 pub mod least;
 pub mod nested;

@@ -12,5 +12,5 @@ returns-in-Finally g c =
 
 pub returns-in-Until : goal.returns-in-Until
 returns-in-Until g c =
-    subst (λ o. Holds (g.M.Model.meaning c.args.model.now).states (sat_path (g.M.Model.meaning c.args.model.now) (ours c.args.some) (asked o) (Some c.args.reading) (members c.args.left.now) (members c.args.right.now)) c.least-set.result)
-    (sym c.in-Until.is) c.least-set.ensures
+    subst (λ o. Holds (g.M.Model.meaning c.args.model.now).states (sat_path (g.M.Model.meaning c.args.model.now) (ours c.args.some) (asked o) (Some c.args.reading) (members c.args.left.now) (members c.args.right.now)) c.least_set.result)
+    (sym c.in-Until.is) c.least_set.ensures

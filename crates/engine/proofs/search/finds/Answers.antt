@@ -1,4 +1,4 @@
 use Rattle.engine.proofs.search.finds.Goals as goal
 
 pub returns-in-Next : goal.returns-in-Next
-returns-in-Next g c = rw c.in-Next.is c.steps-into.ensures
+returns-in-Next g c = rw c.in-Next.is c.steps_into.ensures

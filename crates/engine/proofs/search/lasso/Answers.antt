@@ -13,17 +13,17 @@ returns-in-Some g c =
       followed = loop_followed m (round_of c.args.rank.now) _ _ _ _ _ _ c.loop-i.invariant (omega arith) c.in-Some.ensures;
     }
 
-pub least-step-t-requires : goal.least-step-t-requires
-least-step-t-requires g c =
+pub least_step-t-requires : goal.least_step-t-requires
+least_step-t-requires g c =
     c.requires.total c.loop-i.t
     (rw (come_to c.loop-i.out c.loop-i.i c.loop-i.t c.loop-i.i (omega arith)) at (c.loop-i.invariant.inside c.loop-i.i (omega arith)))
 
 pub loop-i-preserved : goal.loop-i-preserved
 loop-i-preserved g c =
     let m = g.M.Model.meaning c.args.model.now in
-    let go = c.least-step-t.ensures in
+    let go = c.least_step-t.ensures in
     rw add-one
-    (longer m _ _ _ _ _ _ c.loop-i.invariant c.in-default.ensures _ (omega arith) go
+    (longer m _ _ _ _ _ _ c.loop-i.invariant c.in_default.ensures _ (omega arith) go
     ((g.M.Model.lawful c.args.model.now).steps_to _ _ go.step))
 
 pub unreachable-requires : goal.unreachable-requires
@@ -37,6 +37,6 @@ returns g c =
     let trail = rw all at c.loop-i.invariant in
     let few = c.states-n.ensures in
     record {
-      written = loop_written m (round_of c.args.rank.now) _ _ _ _ _ _ trail (omega arith) c.in-Some-place-of.ensures;
-      followed = loop_followed m (round_of c.args.rank.now) _ _ _ _ _ _ trail (omega arith) c.in-Some-place-of.ensures;
+      written = loop_written m (round_of c.args.rank.now) _ _ _ _ _ _ trail (omega arith) c.in-Some-place_of.ensures;
+      followed = loop_followed m (round_of c.args.rank.now) _ _ _ _ _ _ trail (omega arith) c.in-Some-place_of.ensures;
     }

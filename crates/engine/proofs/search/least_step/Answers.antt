@@ -14,8 +14,8 @@ up_to m s t u best ρ next below here v l step =
     ⊎_elim (λ w. absurd (next.2 v z w step)) (λ w. let e : u ≡ v = omega arith in subst (λ x. ρ best ≤ ρ x) e here)
     (cases_lt v u)) (cases_lt v t)
 
-pub overflow-add-t : goal.overflow-add-t
-overflow-add-t g c =
+pub overflow_add-t : goal.overflow_add-t
+overflow_add-t g c =
     let h = inside _ (g.M.Model.lawful c.args.model.now) c.args.s c.in-Some.first c.in-Some.ensures.1 in omega arith
 
 pub loop-u-init : goal.loop-u-init
@@ -30,22 +30,22 @@ loop-u-init g c =
 
 pub bounds-rank-u : goal.bounds-rank-u
 bounds-rank-u g c =
-    (inside _ (g.M.Model.lawful c.args.model.now) c.args.s c.in-Some-least-step.u c.in-Some-least-step.ensures.1).1
+    (inside _ (g.M.Model.lawful c.args.model.now) c.args.s c.in-Some-least_step.u c.in-Some-least_step.ensures.1).1
 
-pub overflow-add-t-in-Some-least-step : goal.overflow-add-t-in-Some-least-step
-overflow-add-t-in-Some-least-step g c =
-    let h = inside _ (g.M.Model.lawful c.args.model.now) c.args.s c.in-Some-least-step.u c.in-Some-least-step.ensures.1 in omega arith
+pub overflow_add-t-in-Some-least_step : goal.overflow_add-t-in-Some-least_step
+overflow_add-t-in-Some-least_step g c =
+    let h = inside _ (g.M.Model.lawful c.args.model.now) c.args.s c.in-Some-least_step.u c.in-Some-least_step.ensures.1 in omega arith
 
 pub loop-u-smaller : goal.loop-u-smaller
 loop-u-smaller g c =
-    let h = inside _ (g.M.Model.lawful c.args.model.now) c.args.s c.in-Some-least-step.u c.in-Some-least-step.ensures.1 in
-    let l = c.in-Some-least-step.ensures.0 in omega arith
+    let h = inside _ (g.M.Model.lawful c.args.model.now) c.args.s c.in-Some-least_step.u c.in-Some-least_step.ensures.1 in
+    let l = c.in-Some-least_step.ensures.0 in omega arith
 
 pub loop-u-preserved : goal.loop-u-preserved
 loop-u-preserved g c =
     let m = g.M.Model.meaning c.args.model.now in
-    let u = c.in-Some-least-step.u in
-    let e = c.in-Some-least-step.ensures in
+    let u = c.in-Some-least_step.u in
+    let e = c.in-Some-least_step.ensures in
     let h = inside _ (g.M.Model.lawful c.args.model.now) c.args.s u e.1 in
     let least = up_to m c.args.s c.loop-u.t u in
     elim c.if-rank-u.branch [

@@ -5,17 +5,17 @@ use Rattle.engine.proofs.Nesting.{Same, pre_alike}
 use Rattle.engine.proofs.Seeking.{by_settling, by_recurring, guided, finding}
 use Rattle.engine.proofs.search.seek.Goals as goal
 
-pub join-first-requires : goal.join-first-requires
-join-first-requires g c = omega (arith, c.states.ensures, (g.M.Model.lawful c.args.model.now).few_states)
+pub join_first-requires : goal.join_first-requires
+join_first-requires g c = omega (arith, c.states.ensures, (g.M.Model.lawful c.args.model.now).few_states)
 
 pub returns-in-Next : goal.returns-in-Next
 returns-in-Next g c =
     let m = g.M.Model.meaning c.args.model.now in
-    let here : Same m.states (before c.join-first.new.joined 1) (members c.args.a.now) =
-    λ s q. c.join-first.ensures s (omega (arith, c.states.ensures)) in
+    let here : Same m.states (before c.join_first.new.joined 1) (members c.args.a.now) =
+    λ s q. c.join_first.ensures s (omega (arith, c.states.ensures)) in
     rw c.in-Next.is (record {
       guides = here;
-      find = λ s q. pre_alike m full (before c.join-first.new.joined 1) (members c.args.a.now) here s;
+      find = λ s q. pre_alike m full (before c.join_first.new.joined 1) (members c.args.a.now) here s;
     })
 
 pub returns-then-settles : goal.returns-then-settles
@@ -23,8 +23,8 @@ returns-then-settles g c =
     let m = g.M.Model.meaning c.args.model.now in
     let found = by_settling m c.args.a.now c.args.b.now c.args.c.now c.settling.result c.args.settles c.if-settles.true c.settling.ensures in
     record {
-      guides = guided m _ c.settling.result found c.args.operator c.in-default.not-Next;
-      find = finding m _ c.settling.result found c.args.operator c.in-default.not-Next;
+      guides = guided m _ c.settling.result found c.args.operator c.in_default.not-Next;
+      find = finding m _ c.settling.result found c.args.operator c.in_default.not-Next;
     }
 
 pub returns-else-settles : goal.returns-else-settles
@@ -32,6 +32,6 @@ returns-else-settles g c =
     let m = g.M.Model.meaning c.args.model.now in
     let found = by_recurring m c.args.a.now c.args.b.now c.args.c.now c.recurring.result c.args.settles c.if-settles.false c.recurring.ensures in
     record {
-      guides = guided m _ c.recurring.result found c.args.operator c.in-default.not-Next;
-      find = finding m _ c.recurring.result found c.args.operator c.in-default.not-Next;
+      guides = guided m _ c.recurring.result found c.args.operator c.in_default.not-Next;
+      find = finding m _ c.recurring.result found c.args.operator c.in_default.not-Next;
     }

@@ -26,8 +26,8 @@ returns-then-joined-u g c =
     hit (g.M.Model.meaning c.args.model.now) (before c.args.joined.now c.args.k) c.args.s c.args.some c.in-Some.u
     (inside _ (g.M.Model.lawful c.args.model.now) c.args.s c.in-Some.u step).0 step (same _ _ c.if-joined-u.true)
 
-pub overflow-add-t : goal.overflow-add-t
-overflow-add-t g c = let h = inside _ (g.M.Model.lawful c.args.model.now) c.args.s c.in-Some.u c.in-Some.ensures.1 in omega arith
+pub overflow_add-t : goal.overflow_add-t
+overflow_add-t g c = let h = inside _ (g.M.Model.lawful c.args.model.now) c.args.s c.in-Some.u c.in-Some.ensures.1 in omega arith
 
 pub loop-u-smaller : goal.loop-u-smaller
 loop-u-smaller g c =
@@ -53,4 +53,4 @@ loop-u-preserved g c =
 pub returns : goal.returns
 returns g c =
     miss (g.M.Model.meaning c.args.model.now) (before c.args.joined.now c.args.k) c.args.s c.args.some
-    (λ u l e. ⊎_elim (λ b. c.loop-u.invariant.1 u b e) (λ b. absurd (c.in-default.ensures u b e)) (cases_lt u c.loop-u.t))
+    (λ u l e. ⊎_elim (λ b. c.loop-u.invariant.1 u b e) (λ b. absurd (c.in_default.ensures u b e)) (cases_lt u c.loop-u.t))

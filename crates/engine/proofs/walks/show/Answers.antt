@@ -6,14 +6,14 @@ use Rattle.engine.specs.Shown.{Carries}
 use Rattle.engine.proofs.Showing.{shown}
 use Rattle.engine.proofs.walks.show.Goals as goal
 
-pub task-of-task-requires : goal.task-of-task-requires
-task-of-task-requires g c = omega (arith, c.states.ensures, (g.M.Model.lawful c.args.model.now).few_states)
+pub task_of-task-requires : goal.task_of-task-requires
+task_of-task-requires g c = omega (arith, c.states.ensures, (g.M.Model.lawful c.args.model.now).few_states)
 
 pub returns : goal.returns
 returns g c =
     let m = g.M.Model.meaning c.args.model.now in
     let q = quantifier c.args.some in
     let op = asked c.args.operator in
-    shown m (g.M.Model.lawful c.args.model.now) c.requires.total q op c.args.reading (members c.args.left.now) (members c.args.right.now) c.task-of-task.result
-    (subst (λ (n : ℕ). Carries n (task_of q op c.args.reading (members c.args.left.now) (members c.args.right.now)) c.task-of-task.result) c.states.ensures c.task-of-task.ensures)
+    shown m (g.M.Model.lawful c.args.model.now) c.requires.total q op c.args.reading (members c.args.left.now) (members c.args.right.now) c.task_of-task.result
+    (subst (λ (n : ℕ). Carries n (task_of q op c.args.reading (members c.args.left.now) (members c.args.right.now)) c.task_of-task.result) c.states.ensures c.task_of-task.ensures)
     c.args.s c.requires.inside c.args.out.now c.search.new.out c.search.result c.search.ensures

@@ -21,10 +21,10 @@ returns-in-Finally c =
 
 pub returns-in-Until : goal.returns-in-Until
 returns-in-Until c =
-    subst (λ (o : Operator). Carries c.args.n (break_task (asked o) c.args.reading (members c.args.left.now) (members c.args.right.now)) (record { a = c.none-of.result; b = c.of-none.result; c = c.outside-in-Until.result; settles = false })) (sym c.in-Until.is)
-    (record { a = c.none-of.ensures; b = holds-none c.args.n c.of-none.result c.requires c.of-none.ensures; c = c.outside-in-Until.ensures; settles = refl })
+    subst (λ (o : Operator). Carries c.args.n (break_task (asked o) c.args.reading (members c.args.left.now) (members c.args.right.now)) (record { a = c.none_of.result; b = c.of-none.result; c = c.outside-in-Until.result; settles = false })) (sym c.in-Until.is)
+    (record { a = c.none_of.ensures; b = holds-none c.args.n c.of-none.result c.requires c.of-none.ensures; c = c.outside-in-Until.ensures; settles = refl })
 
 pub returns-in-Globally : goal.returns-in-Globally
 returns-in-Globally c =
-    subst (λ (o : Operator). Carries c.args.n (break_task (asked o) c.args.reading (members c.args.left.now) (members c.args.right.now)) c.break-weak.result) (sym c.in-Globally.is)
-    (subst (λ (T : Set). Carries c.args.n (break_weak c.args.reading (members c.args.left.now) T) c.break-weak.result) (no_members c.of-none.result c.of-none.ensures) c.break-weak.ensures)
+    subst (λ (o : Operator). Carries c.args.n (break_task (asked o) c.args.reading (members c.args.left.now) (members c.args.right.now)) c.break_weak.result) (sym c.in-Globally.is)
+    (subst (λ (T : Set). Carries c.args.n (break_weak c.args.reading (members c.args.left.now) T) c.break_weak.result) (no_members c.of-none.result c.of-none.ensures) c.break_weak.ensures)

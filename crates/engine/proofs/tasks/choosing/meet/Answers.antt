@@ -26,5 +26,5 @@ returns-in-Until c =
 
 pub returns-in-Globally : goal.returns-in-Globally
 returns-in-Globally c =
-    subst (λ (o : Operator). Carries c.args.n (meet_task (asked o) c.args.reading (members c.args.left.now) (members c.args.right.now)) c.meet-weak.result) (sym c.in-Globally.is)
-    (subst (λ (T : Set). Carries c.args.n (meet_weak c.args.reading (members c.args.left.now) T) c.meet-weak.result) (no_members c.of-none.result c.of-none.ensures) c.meet-weak.ensures)
+    subst (λ (o : Operator). Carries c.args.n (meet_task (asked o) c.args.reading (members c.args.left.now) (members c.args.right.now)) c.meet_weak.result) (sym c.in-Globally.is)
+    (subst (λ (T : Set). Carries c.args.n (meet_weak c.args.reading (members c.args.left.now) T) c.meet_weak.result) (no_members c.of-none.result c.of-none.ensures) c.meet_weak.ensures)

@@ -1,5 +1,6 @@
 //! The sheet: rows of formulas over a model and a scale, and their degrees.
 #![tactic(auto)]
+
 pub mod fault;
 pub mod kinds;
 pub mod row;

@@ -8,7 +8,7 @@ loop-below-init g c rs s h = get_or-replicate 4096 s 0 0 (omega arith)
 
 pub loop-below-preserved : goal.loop-below-preserved
 loop-below-preserved g c rs s h =
-    next_level c.loop-below.below _ _ _ _ (c.level-set-set.ensures rs s (omega arith)) (c.loop-below.invariant rs s h) (c.raise.ensures s h)
+    next_level c.loop-below.below _ _ _ _ (c.level_set-set.ensures rs s (omega arith)) (c.loop-below.invariant rs s h) (c.raise.ensures s h)
 
 pub returns : goal.returns
 returns g c rs s h = last_level c.loop-below.below c.args.self.now.levels _ _ (omega arith) (c.loop-below.invariant rs s h)

@@ -6,6 +6,6 @@ use Rattle.sheet.proofs.sheet.Sheet.degree.Goals as goal
 pub returns : goal.returns
 returns c =
     record {
-      exact = c.read-degree.ensures;
-      law = λ rs. degree_is_true (seen c.args.self.now rs c.args.bytes.now) c.args.row c.args.state (answer c.read-degree.result) (c.read-degree.ensures rs);
+      exact = c.read_degree.ensures;
+      law = λ rs. degree_is_true (seen c.args.self.now rs c.args.bytes.now) c.args.row c.args.state (answer c.read_degree.result) (c.read_degree.ensures rs);
     }

@@ -14,10 +14,10 @@ returns g c =
     let d = g.S.Scale.grades c.args.scale.now in
     let x = c.args.self.now in
     let s = seen x c.args.rows.now c.args.bytes.now in
-    let ok = c.in-ok-check.ensures.exact in
+    let ok = c.in_ok-check.ensures.exact in
     let bytes : c.write.new.bytes ≡ written c.args.bytes.now (x.rows * x.states) x.states (degrees_of m d s c.args.row) =
-    c.write.ensures ∙ same-written _ _ x.states _ _ (λ k h. c.work-out-degrees.ensures c.args.rows.now k h) in
-    let ready = c.in-ok-check.ensures.known refl in
+    c.write.ensures ∙ same-written _ _ x.states _ _ (λ k h. c.work_out-degrees.ensures c.args.rows.now k h) in
+    let ready = c.in_ok-check.ensures.known refl in
     let row = c.args.row in
     let place : x.rows * x.states + x.states ≤ length c.args.bytes.now = omega (arith, ready.room.bytes, suc-mul x.rows x.states) in
     let reads : (k : ℕ) → k < x.states → get_or c.write.new.bytes (x.rows * x.states + k) 0 ≡ degrees_of m d s row k =

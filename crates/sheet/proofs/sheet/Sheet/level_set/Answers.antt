@@ -14,4 +14,4 @@ returns-in-Some g c rs s h =
     c.satisfy.ensures s h
     ∙ ap (λ f. f s)
     (path-set _ _ c.args.row.kind c.args.row.a c.args.level _ _ _ _ _ _ (omega arith) c.operator.ensures c.in-Some.ensures
-    (fun_ext (λ s. c.reaching-left.ensures rs s ∙ ap (λ t. reach (cond t unused (given (seen c.args.self.now rs c.args.bytes.now) c.args.row.a)) c.args.level s) (sym first))) (fun_ext (λ s. c.second-reaching-right.ensures rs s)))
+    (fun_ext (λ s. c.reaching-left.ensures rs s ∙ ap (λ t. reach (cond t unused (given (seen c.args.self.now rs c.args.bytes.now) c.args.row.a)) c.args.level s) (sym first))) (fun_ext (λ s. c.second_reaching-right.ensures rs s)))

@@ -4,8 +4,8 @@ use Rattle.sheet.specs.Kinds.{operands_of}
 use Rattle.sheet.proofs.Asked.{there, missing}
 use Rattle.sheet.proofs.sheet.Sheet.second_reaching.Goals as goal
 
-pub returns-then-is-binary : goal.returns-then-is-binary
-returns-then-is-binary c rs s =
+pub returns-then-is_binary : goal.returns-then-is_binary
+returns-then-is_binary c rs s =
     let t : eqb (operands_of c.args.row.kind) 2 ≡ true = search rules in
     there (eqb (operands_of c.args.row.kind) 2) _ c.args.level s _ t (c.reaching.ensures rs s)
 

@@ -1,5 +1,6 @@
 //! The text form: a scale, a model, and formulas asked of its states.
 #![tactic(auto)]
+
 pub mod fault;
 pub mod kept;
 pub mod read;

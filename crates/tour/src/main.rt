@@ -1,5 +1,6 @@
 //! A tour of the checker, on models small enough to follow by hand. It prints what it makes and what it finds.
 #![tactic(auto)]
+
 mod models;
 mod scales;
 mod sheets;

@@ -1,5 +1,6 @@
 //! Tests: what models, scales, the engine and the sheet answer at the edges and on examples worked out by hand.
 #![tactic(auto)]
+
 #[cfg(test)]
 mod engines;
 #[cfg(test)]

@@ -1,5 +1,6 @@
 //! A client of the sheet: its promise is proved from the laws of the sheet's calls alone.
 #![tactic(auto)]
+
 ghost use Rattle.std.specs.Prelude.{ℕ, IfOk};
 ghost use Rattle.client.specs.Promise.{Judged};
 

@@ -1,5 +1,6 @@
 //! The language of texts: which script a text spells, and that the reader reads exactly the lawful ones.
 #![tactic(auto)]
+
 ghost use Rattle.grammar.specs.Laws.{ReadWhereLawful, FormFaultWhereUnfit};
 
 /// A text is read exactly where it spells a lawful script, and as that script.

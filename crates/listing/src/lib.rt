@@ -1,5 +1,6 @@
 //! The listing call: a text in, its degrees or its fault out.
 #![tactic(auto)]
+
 pub mod answering;
 pub mod answers;
 mod asking;

@@ -1,5 +1,6 @@
 //! Tests: the listings of texts, worked out by hand, at every limit and at the places of faults.
 #![tactic(auto)]
+
 #[cfg(test)]
 mod asks;
 #[cfg(test)]

@@ -1,5 +1,6 @@
 //! `walkcheck`: a text on standard input, its listing on standard output; status 0 for degrees, 1 for a fault.
 #![tactic(auto)]
+
 ghost use Rattle.std.specs.Prelude.{◌≤◌, IfOk};
 
 use listing::listing::list;

@@ -18,15 +18,15 @@ loop-ask-init g c = (
   omega arith,
 )
 
-pub returns-in-err-answer : goal.returns-in-err-answer
-returns-in-err-answer g c =
-    let p = err_from_is_err_and c.from-residual.result c.from-residual.ensures.1 in
+pub returns-in_err-answer : goal.returns-in_err-answer
+returns-in_err-answer g c =
+    let p = err_from_is_err_and c.from_residual.result c.from_residual.ensures.1 in
     let d : Ask = record { state = 0; row = 0 } in
-    let e = c.in-err-answer.field-0.0 in
+    let e = c.in_err-answer.field-0.0 in
     rw (p.1, p.2)
     (asked_more (g.M.Model.meaning c.args.model.now) (g.S.Scale.grades c.args.scale.now) c.args.rows.now c.args.asks.now c.loop-ask.ask-index d (omega arith)
     (seen c.loop-ask.sheet c.loop-ask.records c.loop-ask.bytes) c.loop-ask.entered c.loop-ask.line (items_of c.loop-ask.done)
-    (Err (at_line e.line (toldOfSheet e.fault))) c.in-err-answer.ensures
+    (Err (at_line e.line (toldOfSheet e.fault))) c.in_err-answer.ensures
     ∙ c.loop-ask.invariant.0)
 
 pub loop-ask-preserved : goal.loop-ask-preserved
@@ -34,13 +34,13 @@ loop-ask-preserved g c =
     let d : Ask = record { state = 0; row = 0 } in
     let m = g.M.Model.meaning c.args.model.now in
     let k = g.S.Scale.grades c.args.scale.now in
-    let t = seen c.ask-next.new.sheet c.ask-next.new.records c.ask-next.new.bytes in
+    let t = seen c.ask_next.new.sheet c.ask_next.new.records c.ask_next.new.bytes in
     let a = get_or c.args.asks.now c.loop-ask.ask-index d in (
       ap (λ (l : List Answer). ask_from m k c.args.rows.now t (a.row + 1) (c.loop-ask.line + 1) l (drop (c.loop-ask.ask-index + 1) c.args.asks.now))
           (c.push.ensures.added (omega (arith, c.loop-ask.invariant.1)))
           ∙ asked_more m k c.args.rows.now c.args.asks.now c.loop-ask.ask-index d (omega arith)
           (seen c.loop-ask.sheet c.loop-ask.records c.loop-ask.bytes) c.loop-ask.entered c.loop-ask.line (items_of c.loop-ask.done)
-          (Ok (t, c.in-ok-answer.answer)) c.in-ok-answer.ensures
+          (Ok (t, c.in_ok-answer.answer)) c.in_ok-answer.ensures
           ∙ c.loop-ask.invariant.0,
       omega (arith, c.loop-ask.invariant.1, c.push.ensures.count (omega (arith, c.loop-ask.invariant.1))),
       omega (arith, c.loop-ask.invariant.2),

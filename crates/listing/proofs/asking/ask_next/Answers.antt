@@ -11,8 +11,8 @@ use Rattle.listing.proofs.asking.ask_next.Goals as goal
 
 pub returns : goal.returns
 returns g c =
-    let t = seen c.ask-one.new.sheet c.ask-one.new.records c.ask-one.new.bytes in
-    ap (λ (r : Result Answer AtLine). asked_at r t) c.at-line.ensures ∙ lined-asked c.args.line c.ask-one.result t
+    let t = seen c.ask_one.new.sheet c.ask_one.new.records c.ask_one.new.bytes in
+    ap (λ (r : Result Answer AtLine). asked_at r t) c.at_line.ensures ∙ lined-asked c.args.line c.ask_one.result t
     ∙ ap (λ (r : Result (State × Answer) Refusal). told_at c.args.line r)
-    (c.ask-one.ensures
+    (c.ask_one.ensures
     ∙ ap (λ (rows : List Row). ask_one (g.M.Model.meaning c.args.model.now) (g.S.Scale.grades c.args.scale.now) (seen c.args.sheet.now c.args.records.now c.args.bytes.now) rows c.args.ask) c.part-rows.ensures)

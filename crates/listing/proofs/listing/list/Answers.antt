@@ -3,9 +3,9 @@ use Rattle.listing.proofs.listing.list.Goals as goal
 
 pub returns : goal.returns
 returns c =
-    let done = c.list-into.ensures in
+    let done = c.list_into.ensures in
     record {
       within = done.within;
       exact = done.exact;
-      language = by_language c.args.text.now c.args.buffer.now c.list-into.result.written c.list-into.result.number c.list-into.new.buffer done.exact;
+      language = by_language c.args.text.now c.args.buffer.now c.list_into.result.written c.list_into.result.number c.list_into.new.buffer done.exact;
     }

@@ -4,8 +4,8 @@ use Rattle.text.specs.Kept.{items_of}
 use Rattle.listing.proofs.Puts.{longer, put_last, appended}
 use Rattle.listing.proofs.writing.+put_digits.Goals as goal
 
-pub put-digits-requires : goal.put-digits-requires
-put-digits-requires t c = (omega arith, omega (arith, longer c.args.n (omega arith) (omega arith)))
+pub put_digits-requires : goal.put_digits-requires
+put_digits-requires t c = (omega arith, omega (arith, longer c.args.n (omega arith) (omega arith)))
 
 pub returns-then-n-lt10 : goal.returns-then-n-lt10
 returns-then-n-lt10 t c =
@@ -15,6 +15,6 @@ returns-then-n-lt10 t c =
 pub returns : goal.returns
 returns t c =
     let longer = longer c.args.n (omega arith) (omega arith) in
-    let front = c.put-digits.ensures in
+    let front = c.put_digits.ensures in
     put_last (items_of c.args.out.now) _ _ c.args.n (omega arith) (omega arith) front
-    (c.push-2.ensures.added (omega (arith, longer, appended (items_of c.args.out.now) (decimal (c.args.n / 10)) front, c.put-digits.new.out.counted)))
+    (c.push-2.ensures.added (omega (arith, longer, appended (items_of c.args.out.now) (decimal (c.args.n / 10)) front, c.put_digits.new.out.counted)))

@@ -11,7 +11,7 @@ loop-i-preserved c =
     let same = c.list-answer-items.ensures in
     let blank : Answer = record { state = 0; degree = 0 } in (
       line_more c.args.answers.now.levels xs c.loop-i.i (items_of c.loop-i.out) c.loop-i.invariant.0 blank (omega (arith, ap length same))
-          (c.degree-line.ensures.added ∙ ap (λ (l : List Answer). items_of c.loop-i.out ++ degree_line c.args.answers.now.levels c.loop-i.i (get_or l c.loop-i.i blank)) same),
+          (c.degree_line.ensures.added ∙ ap (λ (l : List Answer). items_of c.loop-i.out ++ degree_line c.args.answers.now.levels c.loop-i.i (get_or l c.loop-i.i blank)) same),
       omega (arith, c.loop-i.invariant.1),
     )
 

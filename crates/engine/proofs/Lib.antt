@@ -2,6 +2,7 @@ pub mod Hits
 pub mod Growing
 pub mod Turning
 pub mod Nesting
+pub mod Returns
 pub mod Satisfying
 pub mod Trails
 pub mod Looping

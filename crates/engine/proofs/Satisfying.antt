@@ -1,22 +1,19 @@
 -- Sets from rounds, and fixed points of sets that are known below a count.
-use Rattle.std.proofs.Common.{◌≡◌, ℕ, suc, ◌+◌, Bool, false, not, get_or, replicate, Some, refl, ap, ◌∙◌, ⊎_elim, arith}
+use Rattle.std.proofs.Common.{◌≡◌, ℕ, suc, ◌+◌, ◌<◌, ◌≤◌, Bool, true, false, not, ◌&&◌, ◌||◌, length, get_or, replicate, sym, refl, ap, ◌∙◌, ⊎_elim, arith}
 use mathlib.Core.Path.{fun_ext}
 use lib.ListN.{get_or-replicate, length-replicate}
 use Rattle.std.proofs.lemmas.List.{get_or_past}
 use Rattle.std.proofs.lemmas.Bool.{cases_lt}
-use Rattle.scale.specs.declared.reading.Reading.TheVariants.{InfinitelyOften, EventuallyAlways}
 use Rattle.model.specs.Meaning.{Meaning}
 use Rattle.logic.proofs.Rules.{F_monotone}
-use Rattle.logic.specs.FixedPoints.{F, G, lfp, gfp}
-use Rattle.logic.specs.Satisfaction.{sat_weak}
-use Rattle.logic.specs.Searches.{H}
-use Rattle.logic.specs.Sets.{Set, empty, full}
+use Rattle.logic.specs.FixedPoints.{pre, F, rounds, lfp}
+use Rattle.logic.specs.Sets.{Set, empty}
 use Rattle.engine.specs.Marks.{members, before, ours}
-use Rattle.engine.specs.Rounded.{Joins, Holds, step_h, inner, Recurring, settled}
+use Rattle.engine.specs.Rounded.{Holds}
 use Rattle.engine.specs.declared.rounds.Rounds.{Rounds}
 use Rattle.engine.specs.declared.sets.StateSet.{StateSet}
 use Rattle.engine.proofs.Growing.{alike}
-use Rattle.engine.proofs.Nesting.{Same, pre_alike}
+use Rattle.engine.proofs.Nesting.{Same}
 use Rattle.engine.proofs.Turning.{rounds_alike}
 
 pub joined-set : (n k : ℕ) (x : Rounds) (T : Set) (b : StateSet) → k ≡ n → Same n (before x (suc n)) T → Holds k (before x (k + 1)) b → Holds n T b
@@ -46,23 +43,3 @@ no_members b e =
     fun_ext (λ s. ap (λ xs. get_or xs s false) e
     ∙ ⊎_elim (λ l. get_or-replicate 4096 s false false l)
     (λ l. get_or_past (replicate 4096 false) s false (let z = length-replicate 4096 false in omega arith)) (cases_lt s 4096))
-
--- H that may pass all states is G
-module _ (m : Meaning) (some : Bool) (right all left : StateSet) (whole : Holds m.states full all) where
-  h_full : (T U V W : Set) → Same m.states T U → Same m.states V W → Same m.states (step_h m some right all left T V) (G m (ours some) (members right) (members left) U W)
-  unfolding G H
-  h_full T U V W h k s q = rw (whole s q, pre_alike m (ours some) T U h s, pre_alike m (ours some) V W k s) refl
-
-  pub recurring_full : (x : Rounds) → Recurring m some right all left x → Same m.states (before x (suc m.states)) (sat_weak m (ours some) (Some InfinitelyOften) (members left) (members right))
-  recurring_full x r s q =
-      r.set s q
-      ∙ rounds_alike m.states (inner m some right all left) (λ V. lfp m.states (λ U. G m (ours some) (members right) (members left) U V))
-      (λ V W k. rounds_alike m.states (λ U. step_h m some right all left U V) (λ U. G m (ours some) (members right) (members left) U W)
-      (λ T U h. h_full T U V W h k) empty (suc m.states)) full (suc m.states) s q
-
-  pub settling_full : (x : Rounds) → Joins m.states (settled m some right all left) x (suc m.states) → Same m.states (before x (suc m.states)) (sat_weak m (ours some) (Some EventuallyAlways) (members left) (members right))
-  settling_full x js s q =
-      js s q (suc m.states) (omega arith)
-      ∙ rounds_alike m.states (settled m some right all left) (λ U. gfp m.states (λ V. G m (ours some) (members right) (members left) U V))
-      (λ T U h. rounds_alike m.states (λ V. step_h m some right all left T V) (λ V. G m (ours some) (members right) (members left) U V)
-      (λ V W k. h_full T U V W h k) full (suc m.states)) empty (suc m.states) s q

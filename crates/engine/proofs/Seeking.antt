@@ -4,7 +4,8 @@ use Rattle.std.proofs.lemmas.Bool.{both_ways}
 use Rattle.model.specs.Meaning.{Meaning}
 use Rattle.logic.specs.Searches.{Task, task, found, guide_of, Joined, sought, Guides}
 use Rattle.engine.specs.Marks.{members, round_of, before}
-use Rattle.engine.specs.Rounded.{Joins, Recurring, settled}
+use Rattle.engine.specs.Passing.{Returning, remained}
+use Rattle.engine.specs.Rounded.{Joins}
 use Rattle.engine.specs.Satisfied.{asked}
 use Rattle.engine.specs.Seeking.{found_by}
 use Rattle.engine.specs.declared.operator.Operator.{Operator}
@@ -19,13 +20,13 @@ pub record Guiding (m : Meaning) (t : Task) (x : Rounds) : Type 0 where
   pub finds : Same m.states (before x (suc m.states)) (found m t)
 
 module _ (m : Meaning) (a b c : StateSet) (x : Rounds) where
-  pub by_settling : (k : Bool) → k ≡ true → Joins m.states (settled m true a b c) x (suc m.states) → Guiding m (task (members a) (members b) (members c) k) x
-  by_settling true e js = record { guides = js; finds = λ s q. js s q (suc m.states) (omega arith) }
-  by_settling false e js = absurd (both_ways false refl e)
+  pub by_remaining : (k : Bool) → k ≡ true → Joins m.states (remained m true a b c) x (suc m.states) → Guiding m (task (members a) (members b) (members c) k) x
+  by_remaining true e js = record { guides = js; finds = λ s q. js s q (suc m.states) (omega arith) }
+  by_remaining false e js = absurd (both_ways false refl e)
 
-  pub by_recurring : (k : Bool) → k ≡ false → Recurring m true a b c x → Guiding m (task (members a) (members b) (members c) k) x
-  by_recurring true e r = absurd (both_ways true e refl)
-  by_recurring false e r = record { guides = r.rounds_of; finds = r.set }
+  pub by_returning : (k : Bool) → k ≡ false → Returning m true a b c x → Guiding m (task (members a) (members b) (members c) k) x
+  by_returning true e r = absurd (both_ways true e refl)
+  by_returning false e r = record { guides = r.rounds_of; finds = r.set }
 
 module _ (m : Meaning) (t : Task) (x : Rounds) (f : Guiding m t x) where
   pub guided : (o : Operator) → (o ≡ Next → ⊥) → Guides m (asked o) t (round_of x)

@@ -1,5 +1,6 @@
 pub mod Marks
 pub mod Rounded
+pub mod Passing
 pub mod Satisfied
 pub mod Lassos
 pub mod Seeking

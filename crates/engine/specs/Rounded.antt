@@ -1,8 +1,7 @@
 -- What the engine's loops leave.
 use Rattle.std.specs.Prelude.{◌≡◌, ℕ, suc, ◌<◌, ◌≤◌, Bool, false, cond, not, ◌&&◌, ◌==◌}
 use Rattle.model.specs.Meaning.{Meaning}
-use Rattle.logic.specs.FixedPoints.{F, rounds, lfp, gfp}
-use Rattle.logic.specs.Searches.{H}
+use Rattle.logic.specs.FixedPoints.{F, G, rounds, lfp, gfp}
 use Rattle.logic.specs.Sets.{Set, empty, full}
 use Rattle.engine.specs.Marks.{members, round_of, before, ours}
 use Rattle.engine.specs.declared.rounds.Rounds.{Rounds}
@@ -46,20 +45,15 @@ pub record Applied (n : ℕ) (T : Set) (a b : StateSet) (changed : Bool) : Type 
   pub each : Holds n T b
   pub still : changed ≡ false → Holds n (members a) b
 
-module _ (m : Meaning) (some : Bool) (right pass left : StateSet) where
-  -- H from three sets as the code has them
-  abbrev pub step_h : Set → Set → Set
-  step_h U V = H m (ours some) (members right) (members pass) (members left) U V
-
-  -- the inner fixed point where left, or right seen, is to come again and again
+module _ (m : Meaning) (some : Bool) (right left : StateSet) where
+  -- the inner fixed point of infinitely often, and of eventually always
   abbrev pub inner : Set → Set
-  inner V = lfp m.states (λ U. step_h U V)
+  inner T2 = lfp m.states (λ T1. G m (ours some) (members right) (members left) T1 T2)
 
-  -- the states from which it does, by the rounds of the last inner fixed point
+  -- the states from which good ones come infinitely often, by the rounds of the last inner fixed point
   pub record Recurring (x : Rounds) : Type 0 where
     pub set : (s : ℕ) → s < m.states → before x (suc m.states) s ≡ gfp m.states inner s
-    pub rounds_of : Joins m.states (λ U. step_h U (gfp m.states inner)) x (suc m.states)
+    pub rounds_of : Joins m.states (λ T1. G m (ours some) (members right) (members left) T1 (gfp m.states inner)) x (suc m.states)
 
-  -- the inner fixed point where left, or right seen, is to stay from some position on
   abbrev pub settled : Set → Set
-  settled U = gfp m.states (λ V. step_h U V)
+  settled T1 = gfp m.states (λ T2. G m (ours some) (members right) (members left) T1 T2)

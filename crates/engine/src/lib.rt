@@ -5,6 +5,7 @@ pub mod greatest;
 pub mod least;
 pub mod nested;
 pub mod operator;
+pub mod passing;
 pub mod rounds;
 pub mod satisfy;
 pub mod search;

@@ -1,5 +1,5 @@
-//! Nested fixed points of H.
-ghost use Rattle.std.specs.Prelude.{◌≡◌, suc, ◌+◌, ◌<◌, ◌≤◌, true, not, replicate};
+//! Nested fixed points of G.
+ghost use Rattle.std.specs.Prelude.{◌≡◌, ℕ, suc, ◌+◌, ◌<◌, ◌≤◌, true, not, replicate};
 ghost use Rattle.engine.specs.Marks.{before};
 ghost use Rattle.engine.specs.Rounded.{Applied, Joins, Recurring, Round, settled, step_f};
 
@@ -11,7 +11,7 @@ use crate::steps::in_f;
 use model::interface::Model;
 
 /// Marks in `base` the states of F of S1, S2 and the states that joined before round `k`. Did a mark change?
-fn apply<M: Model>(
+pub(crate) fn apply<M: Model>(
     model: &M,
     some: bool,
     s1: &StateSet,
@@ -38,43 +38,38 @@ fn repeat<M: Model>(
     model: &M,
     some: bool,
     right: &StateSet,
-    pass: &StateSet,
     left: &StateSet,
+    all: &StateSet,
     base: &mut StateSet,
     joined: &mut Rounds,
 )
+    requires all { all.now.marks ≡ replicate 4096 true }
     requires base { base.old.marks ≡ replicate 4096 true }
     requires joined { joined.old.rounds ≡ replicate 4096 0 }
-    ensures { Recurring (M.meaning model.now) some right.now pass.now left.now joined.new }
+    ensures { Recurring (M.meaning model.now) some right.now left.now joined.new }
 {
     let n = model.states();
     for j in 0..n + 2 {
         if !apply(model, some, right, left, joined, n + 1, base) {
             return;
         }
-        *joined = least(model, some, base, pass);
+        *joined = least(model, some, base, all);
     }
 }
 
-/// The states from which some walk, or every walk, keeps to `pass` or `left` until `right` is seen, and has `left`, or
-/// has seen `right`, again and again, by the last inner rounds.
-pub fn recurring<M: Model>(
-    model: &M,
-    some: bool,
-    right: &StateSet,
-    pass: &StateSet,
-    left: &StateSet,
-) -> Rounds
-    ensures { Recurring (M.meaning model.now) some right.now pass.now left.now result }
+/// The states from which some walk, or every walk, is good infinitely often, by the last inner rounds.
+pub fn recurring<M: Model>(model: &M, some: bool, right: &StateSet, left: &StateSet) -> Rounds
+    ensures { Recurring (M.meaning model.now) some right.now left.now result }
 {
+    let all = StateSet::of(true);
     let mut base = StateSet::of(true);
     let mut joined = Rounds::of(0);
-    repeat(model, some, right, pass, left, &mut base, &mut joined);
+    repeat(model, some, right, left, &all, &mut base, &mut joined);
     joined
 }
 
 /// The first `n` states that have not left join in round `k`. Did any?
-fn merge(n: u16, left: &Rounds, k: u16, joined: &mut Rounds) -> bool
+pub(crate) fn merge(n: u16, left: &Rounds, k: u16, joined: &mut Rounds) -> bool
     requires { (n ≤ 4096) × (k < 65535) }
     ensures { Round n (λ _ s. not (before left.now (n + 1) s)) k joined.old joined.new result }
 {
@@ -93,16 +88,17 @@ fn settle<M: Model>(
     model: &M,
     some: bool,
     right: &StateSet,
-    pass: &StateSet,
     left: &StateSet,
+    all: &StateSet,
     k: u16,
     base: &mut StateSet,
     joined: &mut Rounds,
 ) -> bool
+    requires all { all.now.marks ≡ replicate 4096 true }
     requires round { k < 65535 }
-    ensures { Round (M.meaning model.now).states (settled (M.meaning model.now) some right.now pass.now left.now) k joined.old joined.new result }
+    ensures { Round (M.meaning model.now).states (settled (M.meaning model.now) some right.now left.now) k joined.old joined.new result }
 {
-    let _changed = apply(model, some, right, pass, joined, k, base);
+    let _changed = apply(model, some, right, all, joined, k, base);
     let gone = greatest(model, some, base, left);
     merge(model.states(), &gone, k, joined)
 }
@@ -112,34 +108,29 @@ fn extend<M: Model>(
     model: &M,
     some: bool,
     right: &StateSet,
-    pass: &StateSet,
     left: &StateSet,
+    all: &StateSet,
     base: &mut StateSet,
     joined: &mut Rounds,
 )
+    requires all { all.now.marks ≡ replicate 4096 true }
     requires joined { joined.old.rounds ≡ replicate 4096 65535 }
-    ensures { Joins (M.meaning model.now).states (settled (M.meaning model.now) some right.now pass.now left.now) joined.new (suc (M.meaning model.now).states) }
+    ensures { Joins (M.meaning model.now).states (settled (M.meaning model.now) some right.now left.now) joined.new (suc (M.meaning model.now).states) }
 {
     for k in 0..model.states() + 1 {
-        if !settle(model, some, right, pass, left, k, base, joined) {
+        if !settle(model, some, right, left, all, k, base, joined) {
             return;
         }
     }
 }
 
-/// The states from which some walk, or every walk, keeps so, and has `left`, or has seen `right`, from some position
-/// on, by the outer round in which each joins.
-pub fn settling<M: Model>(
-    model: &M,
-    some: bool,
-    right: &StateSet,
-    pass: &StateSet,
-    left: &StateSet,
-) -> Rounds
-    ensures { Joins (M.meaning model.now).states (settled (M.meaning model.now) some right.now pass.now left.now) result (suc (M.meaning model.now).states) }
+/// The states from which some walk, or every walk, is good from some position on, by the outer round in which each joins.
+pub fn settling<M: Model>(model: &M, some: bool, right: &StateSet, left: &StateSet) -> Rounds
+    ensures { Joins (M.meaning model.now).states (settled (M.meaning model.now) some right.now left.now) result (suc (M.meaning model.now).states) }
 {
+    let all = StateSet::of(true);
     let mut base = StateSet::of(false);
     let mut joined = Rounds::of(NEVER);
-    extend(model, some, right, pass, left, &mut base, &mut joined);
+    extend(model, some, right, left, &all, &mut base, &mut joined);
     joined
 }

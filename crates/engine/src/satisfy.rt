@@ -109,9 +109,8 @@ fn always<M: Model>(model: &M, some: bool, left: &StateSet, right: &StateSet) ->
 fn eventually<M: Model>(model: &M, some: bool, left: &StateSet, right: &StateSet) -> StateSet
     ensures { Holds (M.meaning model.now).states (sat_weak (M.meaning model.now) (ours some) (Some EventuallyAlways) (members left.now) (members right.now)) result }
 {
-    let all = StateSet::of(true);
     let mut set = StateSet::of(false);
-    let rounds = settling(model, some, right, &all, left);
+    let rounds = settling(model, some, right, left);
     mark_joined(model.states(), &rounds, &mut set);
     set
 }
@@ -120,9 +119,8 @@ fn eventually<M: Model>(model: &M, some: bool, left: &StateSet, right: &StateSet
 fn infinitely<M: Model>(model: &M, some: bool, left: &StateSet, right: &StateSet) -> StateSet
     ensures { Holds (M.meaning model.now).states (sat_weak (M.meaning model.now) (ours some) (Some InfinitelyOften) (members left.now) (members right.now)) result }
 {
-    let all = StateSet::of(true);
     let mut set = StateSet::of(false);
-    let rounds = recurring(model, some, right, &all, left);
+    let rounds = recurring(model, some, right, left);
     mark_joined(model.states(), &rounds, &mut set);
     set
 }

@@ -7,8 +7,8 @@ ghost use Rattle.engine.specs.Marks.{members, round_of};
 ghost use Rattle.engine.specs.Satisfied.{asked};
 ghost use Rattle.engine.specs.Seeking.{Goes, found_by};
 
-use crate::nested::{recurring, settling};
 use crate::operator::Operator;
+use crate::passing::{remaining, returning};
 use crate::rounds::{NEVER, Rounds};
 use crate::satisfy::join_first;
 use crate::sets::StateSet;
@@ -87,9 +87,9 @@ fn seek<M: Model>(
         join_first(model.states(), a, &mut joined);
         joined
     } else if settles {
-        settling(model, true, a, b, c)
+        remaining(model, true, a, b, c)
     } else {
-        recurring(model, true, a, b, c)
+        returning(model, true, a, b, c)
     }
 }
 

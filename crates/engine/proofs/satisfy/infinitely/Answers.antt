@@ -1,6 +1,5 @@
-use Rattle.std.proofs.Common.{true, false, arith}
-use Rattle.engine.proofs.Growing.{everywhere}
-use Rattle.engine.proofs.Satisfying.{joined-set, recurring_full}
+use Rattle.std.proofs.Common.{arith}
+use Rattle.engine.proofs.Satisfying.{joined-set}
 use Rattle.engine.proofs.satisfy.infinitely.Goals as goal
 
 pub mark_joined-requires : goal.mark_joined-requires
@@ -8,8 +7,5 @@ mark_joined-requires g c = omega (arith, c.states.ensures, (g.M.Model.lawful c.a
 
 pub returns : goal.returns
 returns g c =
-    let m = g.M.Model.meaning c.args.model.now in
-    joined-set m.states c.states.result c.recurring-rounds.result _ c.mark_joined.new.set c.states.ensures
-    (recurring_full m c.args.some c.args.right.now c.of-all.result c.args.left.now
-    (λ s q. everywhere c.of-all.result.marks true false _ s (g.M.Model.lawful c.args.model.now).few_states c.of-all.ensures q)
-    c.recurring-rounds.result c.recurring-rounds.ensures) c.mark_joined.ensures
+    joined-set (g.M.Model.meaning c.args.model.now).states c.states.result c.recurring-rounds.result _ c.mark_joined.new.set c.states.ensures
+    c.recurring-rounds.ensures.set c.mark_joined.ensures

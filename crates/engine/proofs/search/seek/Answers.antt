@@ -2,7 +2,7 @@ use Rattle.std.proofs.Common.{arith}
 use Rattle.logic.specs.Sets.{full}
 use Rattle.engine.specs.Marks.{members, before}
 use Rattle.engine.proofs.Nesting.{Same, pre_alike}
-use Rattle.engine.proofs.Seeking.{by_settling, by_recurring, guided, finding}
+use Rattle.engine.proofs.Seeking.{by_remaining, by_returning, guided, finding}
 use Rattle.engine.proofs.search.seek.Goals as goal
 
 pub join_first-requires : goal.join_first-requires
@@ -21,17 +21,17 @@ returns-in-Next g c =
 pub returns-then-settles : goal.returns-then-settles
 returns-then-settles g c =
     let m = g.M.Model.meaning c.args.model.now in
-    let found = by_settling m c.args.a.now c.args.b.now c.args.c.now c.settling.result c.args.settles c.if-settles.true c.settling.ensures in
+    let found = by_remaining m c.args.a.now c.args.b.now c.args.c.now c.remaining.result c.args.settles c.if-settles.true c.remaining.ensures in
     record {
-      guides = guided m _ c.settling.result found c.args.operator c.in_default.not-Next;
-      find = finding m _ c.settling.result found c.args.operator c.in_default.not-Next;
+      guides = guided m _ c.remaining.result found c.args.operator c.in_default.not-Next;
+      find = finding m _ c.remaining.result found c.args.operator c.in_default.not-Next;
     }
 
 pub returns-else-settles : goal.returns-else-settles
 returns-else-settles g c =
     let m = g.M.Model.meaning c.args.model.now in
-    let found = by_recurring m c.args.a.now c.args.b.now c.args.c.now c.recurring.result c.args.settles c.if-settles.false c.recurring.ensures in
+    let found = by_returning m c.args.a.now c.args.b.now c.args.c.now c.returning.result c.args.settles c.if-settles.false c.returning.ensures in
     record {
-      guides = guided m _ c.recurring.result found c.args.operator c.in_default.not-Next;
-      find = finding m _ c.recurring.result found c.args.operator c.in_default.not-Next;
+      guides = guided m _ c.returning.result found c.args.operator c.in_default.not-Next;
+      find = finding m _ c.returning.result found c.args.operator c.in_default.not-Next;
     }

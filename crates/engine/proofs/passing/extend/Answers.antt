@@ -1,0 +1,25 @@
+use Rattle.std.proofs.Common.{add-one, arith}
+use Rattle.engine.specs.Passing.{remained}
+use Rattle.engine.proofs.Growing.{none-joined, round_past, round_joins, last_joins}
+use Rattle.engine.proofs.Returns.{remained_monotone}
+use Rattle.engine.proofs.passing.extend.Goals as goal
+
+pub loop-k-init : goal.loop-k-init
+loop-k-init g c =
+    none-joined (g.M.Model.meaning c.args.model.now).states (remained (g.M.Model.meaning c.args.model.now) c.args.some c.args.right.now c.args.pass.now c.args.left.now)
+    c.args.joined.now (g.M.Model.lawful c.args.model.now).few_states c.requires.joined
+
+pub returns-then-not-settle : goal.returns-then-not-settle
+returns-then-not-settle g c =
+    let few = (g.M.Model.lawful c.args.model.now).few_states in
+    last_joins _ _ (remained_monotone (g.M.Model.meaning c.args.model.now) c.args.some c.args.right.now c.args.pass.now c.args.left.now) few _ _ c.loop-k.k (omega arith) c.loop-k.invariant.1 c.loop-k.invariant.0
+    (rw c.if-not-settle.true at c.settle.ensures)
+
+pub loop-k-preserved : goal.loop-k-preserved
+loop-k-preserved g c =
+    let few = (g.M.Model.lawful c.args.model.now).few_states in
+    let mono = remained_monotone (g.M.Model.meaning c.args.model.now) c.args.some c.args.right.now c.args.pass.now c.args.left.now in
+    rw add-one (
+      round_joins _ _ mono few _ _ c.loop-k.k (omega arith) c.loop-k.invariant.1 c.loop-k.invariant.0 _ c.settle.ensures,
+      round_past _ _ mono few _ _ c.loop-k.k (omega arith) c.loop-k.invariant.1 c.loop-k.invariant.0 _ c.settle.ensures,
+    )

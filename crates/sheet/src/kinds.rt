@@ -93,7 +93,7 @@ pub const KINDS: [KindInfo; 15] = [
 pub fn name(kind: u8) -> Option<&'static str>
     ensures { option_map (λ x. x.now) result ≡ (if leb 1 kind && nat_le kind 15 then Some (name_of kind) else None) }
 {
-    if kind < 1 || kind > 15 {
+    if kind == 0 || kind >= 16 {
         return None;
     }
     Some(KINDS[kind as usize - 1].name)

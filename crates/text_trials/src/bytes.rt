@@ -1,8 +1,7 @@
 //! Bytes that fit nowhere, and the lengths of the text and of the buffer.
-use super::calls::{MARK, ROUND, add, add_times, lists};
+use super::calls::{MARK, ROUND, add, add_times, lists, noted};
 use listing::listing::list;
 use std::process::Abort;
-use std::test::Fail;
 use text::kept::Kept;
 
 fn has(text: &str, b: u8) -> bool {
@@ -15,7 +14,7 @@ fn has(text: &str, b: u8) -> bool {
 }
 
 /// After the head and what follows it, each byte but the lawful ones is the fault's place, whatever comes then.
-fn only(rt: &impl Abort, lawful: &str, head: &str, more: &str, listing: &str) -> Result<(), Fail> {
+fn only(rt: &impl Abort, lawful: &str, head: &str, more: &str, listing: &str) {
     for b in 0..=255u8 {
         if !has(lawful, b) {
             let mut text: Kept<u8, 20000> = Kept::new(0);
@@ -23,58 +22,57 @@ fn only(rt: &impl Abort, lawful: &str, head: &str, more: &str, listing: &str) ->
             add(&mut text, more);
             text.push(b);
             add(&mut text, "4 (p 0)\n");
-            lists(rt, text.list(), 15, listing.as_bytes()).note(b)?;
+            noted(rt, b, text.list(), 15, listing.as_bytes());
         }
     }
-    Ok(())
 }
 
 #[test]
-fn any_byte_in_the_first_lines(rt: HostRuntime) -> Result<(), Fail> {
-    only(&rt, "(", "", "", "(fault text 15 1 1 0)\n")?;
-    only(&rt, "s", "(", "", "(fault text 15 1 2 0)\n")?;
-    only(&rt, " ", "(scale", "", "(fault text 15 1 7 0)\n")?;
-    only(&rt, " 0123456789", "(scale ", "", "(fault text 15 1 8 0)\n")?;
+fn any_byte_in_the_first_lines(rt: HostRuntime) {
+    only(&rt, "(", "", "", "(fault text 15 1 1 0)\n");
+    only(&rt, "s", "(", "", "(fault text 15 1 2 0)\n");
+    only(&rt, " ", "(scale", "", "(fault text 15 1 7 0)\n");
+    only(&rt, " 0123456789", "(scale ", "", "(fault text 15 1 8 0)\n");
     only(
         &rt,
         ")0123456789",
         "(scale 4",
         "",
         "(fault text 15 1 9 0)\n",
-    )?;
-    only(&rt, "\n", "(scale 4)", "", "(fault text 15 1 10 0)\n")?;
-    only(&rt, "(", "(scale 4)\n", "", "(fault text 15 2 1 0)\n")?;
-    only(&rt, "tp", "(scale 4)\n(", "", "(fault text 15 2 2 0)\n")
+    );
+    only(&rt, "\n", "(scale 4)", "", "(fault text 15 1 10 0)\n");
+    only(&rt, "(", "(scale 4)\n", "", "(fault text 15 2 1 0)\n");
+    only(&rt, "tp", "(scale 4)\n(", "", "(fault text 15 2 2 0)\n");
 }
 
 #[test]
-fn any_byte_in_later_lines(rt: HostRuntime) -> Result<(), Fail> {
-    only(&rt, "(", ROUND, "", "(fault text 15 6 1 0)\n")?;
-    only(&rt, "sha", ROUND, "(", "(fault text 15 6 2 0)\n")?;
+fn any_byte_in_later_lines(rt: HostRuntime) {
+    only(&rt, "(", ROUND, "", "(fault text 15 6 1 0)\n");
+    only(&rt, "sha", ROUND, "(", "(fault text 15 6 2 0)\n");
     only(
         &rt,
         " 0123456789",
         ROUND,
         "(step ",
         "(fault text 15 6 7 0)\n",
-    )?;
-    only(&rt, " (", ROUND, "(ask 0 ", "(fault text 15 6 8 0)\n")?;
-    only(&rt, "EAoanip", ROUND, "(ask 0 (", "(fault text 15 6 9 0)\n")?;
-    only(&rt, "XFGUW", ROUND, "(ask 0 (A", "(fault text 15 6 10 0)\n")?;
+    );
+    only(&rt, " (", ROUND, "(ask 0 ", "(fault text 15 6 8 0)\n");
+    only(&rt, "EAoanip", ROUND, "(ask 0 (", "(fault text 15 6 9 0)\n");
+    only(&rt, "XFGUW", ROUND, "(ask 0 (A", "(fault text 15 6 10 0)\n");
     only(
         &rt,
         ")0123456789",
         ROUND,
         "(ask 0 (p 0",
         "(fault text 15 6 12 0)\n",
-    )?;
+    );
     only(
         &rt,
         "a",
         ROUND,
         "(ask 0 (p 0))\n(",
         "(fault text 15 7 2 0)\n",
-    )
+    );
 }
 
 /// A text with spaces in its first line up to so many, and an end.
@@ -87,21 +85,21 @@ fn spaced(times: usize, end: &str) -> Kept<u8, 20000> {
 }
 
 #[test]
-fn a_text_has_16384_bytes(rt: HostRuntime) -> Result<(), Fail> {
+fn a_text_has_16384_bytes(rt: HostRuntime) {
     let end = "4)\n(pool 1 0)\n(ask 0 (p 1))\n";
     let at = spaced(16350, end);
     assert!(rt; at.len() == 16384);
-    lists(&rt, at.list(), 0, b"(degree 0 0 1111)\n")?;
+    lists(&rt, at.list(), 0, b"(degree 0 0 1111)\n");
     let past = spaced(16351, end);
     assert!(rt; past.len() == 16385);
-    lists(&rt, past.list(), 14, b"(fault text 14 1 1 0)\n")?;
+    lists(&rt, past.list(), 14, b"(fault text 14 1 1 0)\n");
     let cut = spaced(16378, "");
     assert!(rt; cut.len() == 16384);
-    lists(&rt, cut.list(), 15, b"(fault text 15 1 16385 0)\n")?;
+    lists(&rt, cut.list(), 15, b"(fault text 15 1 16385 0)\n");
     let long = spaced(16378, "x");
-    lists(&rt, long.list(), 14, b"(fault text 14 1 1 0)\n")?;
-    lists(&rt, &[b'\n'; 16384], 15, b"(fault text 15 1 1 0)\n")?;
-    lists(&rt, &[b'\n'; 16385], 14, b"(fault text 14 1 1 0)\n")?;
+    lists(&rt, long.list(), 14, b"(fault text 14 1 1 0)\n");
+    lists(&rt, &[b'\n'; 16384], 15, b"(fault text 15 1 1 0)\n");
+    lists(&rt, &[b'\n'; 16385], 14, b"(fault text 14 1 1 0)\n");
     lists(&rt, &[0; 20000], 14, b"(fault text 14 1 1 0)\n")
 }
 
@@ -133,12 +131,12 @@ fn a_buffer_of_256_bytes_is_enough(rt: HostRuntime) {
     let listed = list(b"(scale 1)\n(pool 1 0)\n(ask 0 (p 1))\n", &mut buffer);
     assert_eq!(rt; listed.number, 0);
     assert_eq!(rt; listed.written, 15);
-    assert_eq!(rt; &buffer[0..15], b"(degree 0 0 1)\n");
+    assert_eq!(rt; &buffer[0..15], b"(degree 0 0 1)\n".as_slice());
     for b in &buffer[15..] {
         assert_eq!(rt; *b, MARK);
     }
     let again = list(b"(", &mut buffer);
     assert_eq!(rt; again.number, 15);
     assert_eq!(rt; again.written, 22);
-    assert_eq!(rt; &buffer[0..22], b"(fault text 15 1 2 0)\n");
+    assert_eq!(rt; &buffer[0..22], b"(fault text 15 1 2 0)\n".as_slice());
 }

@@ -1,7 +1,7 @@
 //! How the tests make the call.
 use listing::listing::list;
+use std::fmt::Display;
 use std::process::Abort;
-use std::test::Fail;
 use text::kept::Kept;
 
 /// The scale's line.
@@ -20,16 +20,26 @@ pub(crate) const POOL: &str = "(scale 4)\n(pool 1 0)\n";
 pub(crate) const MARK: u8 = 7;
 
 /// Makes the call in a buffer of marks: the number, the listing, and the marks that stand after it.
-pub(crate) fn lists(rt: &impl Abort, text: &[u8], number: u8, listing: &[u8]) -> Result<(), Fail> {
+pub(crate) fn lists(rt: &impl Abort, text: &[u8], number: u8, listing: &[u8]) {
+    noted(rt, "", text, number, listing);
+}
+
+/// As `lists`, with a note that a failure shows.
+pub(crate) fn noted(
+    rt: &impl Abort,
+    note: impl Display + Drop,
+    text: &[u8],
+    number: u8,
+    listing: &[u8],
+) {
     let mut buffer = [MARK; 300];
     let listed = list(text, &mut buffer);
     let end = listed.written;
-    assert_eq!(rt; &buffer[0..end], listing);
+    assert_eq!(rt; &buffer[0..end], listing, "{note}");
     for b in &buffer[end..] {
-        assert_eq!(rt; *b, MARK);
+        assert_eq!(rt; *b, MARK, "{note}");
     }
-    assert_eq!(rt; listed.number, number);
-    Ok(())
+    assert_eq!(rt; listed.number, number, "{note}");
 }
 
 /// Adds a piece to a text.
@@ -47,17 +57,11 @@ pub(crate) fn add_times(text: &mut Kept<u8, 20000>, piece: &str, times: usize) {
 }
 
 /// Checks the listing of each text, each after the same head.
-pub(crate) fn all(
-    rt: &impl Abort,
-    head: &str,
-    number: u8,
-    cases: &[(&str, &str)],
-) -> Result<(), Fail> {
+pub(crate) fn all(rt: &impl Abort, head: &str, number: u8, cases: &[(&str, &str)]) {
     for (rest, listing) in cases {
         let mut text: Kept<u8, 20000> = Kept::new(0);
         add(&mut text, head);
         add(&mut text, rest);
-        lists(rt, text.list(), number, listing.as_bytes()).note(*rest)?;
+        noted(rt, *rest, text.list(), number, listing.as_bytes());
     }
-    Ok(())
 }

@@ -1,9 +1,8 @@
 //! Forms: a byte at which no lawful line goes on, or a text that ends early.
 use super::calls::{POOL, ROUND, SCALE, TABLE, all};
-use std::test::Fail;
 
 #[test]
-fn a_scale_line_cut_short(rt: HostRuntime) -> Result<(), Fail> {
+fn a_scale_line_cut_short(rt: HostRuntime) {
     let cases = [
         ("", "(fault text 15 1 1 0)\n"),
         ("(", "(fault text 15 1 2 0)\n"),
@@ -15,11 +14,11 @@ fn a_scale_line_cut_short(rt: HostRuntime) -> Result<(), Fail> {
         ("(scale 4", "(fault text 15 1 9 0)\n"),
         ("(scale 4)", "(fault text 15 1 10 0)\n"),
     ];
-    all(&rt, "", 15, &cases)
+    all(&rt, "", 15, &cases);
 }
 
 #[test]
-fn what_no_scale_line_has(rt: HostRuntime) -> Result<(), Fail> {
+fn what_no_scale_line_has(rt: HostRuntime) {
     let cases = [
         ("\n", "(fault text 15 1 1 0)\n"),
         (" (scale 4)\n", "(fault text 15 1 1 0)\n"),
@@ -45,11 +44,11 @@ fn what_no_scale_line_has(rt: HostRuntime) -> Result<(), Fail> {
         ("(holds 0 0)\n", "(fault text 15 1 2 0)\n"),
         ("(step 0 0)\n", "(fault text 15 1 3 0)\n"),
     ];
-    all(&rt, "", 15, &cases)
+    all(&rt, "", 15, &cases);
 }
 
 #[test]
-fn a_model_line_cut_short(rt: HostRuntime) -> Result<(), Fail> {
+fn a_model_line_cut_short(rt: HostRuntime) {
     let cases = [
         ("", "(fault text 15 2 1 0)\n"),
         ("(", "(fault text 15 2 2 0)\n"),
@@ -67,11 +66,11 @@ fn a_model_line_cut_short(rt: HostRuntime) -> Result<(), Fail> {
         ("(pool 1 0", "(fault text 15 2 10 0)\n"),
         ("(pool 1 0)", "(fault text 15 2 11 0)\n"),
     ];
-    all(&rt, SCALE, 15, &cases)
+    all(&rt, SCALE, 15, &cases);
 }
 
 #[test]
-fn what_no_model_line_has(rt: HostRuntime) -> Result<(), Fail> {
+fn what_no_model_line_has(rt: HostRuntime) {
     let cases = [
         ("\n", "(fault text 15 2 1 0)\n"),
         ("(tale 2 1)\n", "(fault text 15 2 4 0)\n"),
@@ -92,11 +91,11 @@ fn what_no_model_line_has(rt: HostRuntime) -> Result<(), Fail> {
         ("(holds 0 0)\n", "(fault text 15 2 2 0)\n"),
         ("(ask 0 (p 0))\n", "(fault text 15 2 2 0)\n"),
     ];
-    all(&rt, SCALE, 15, &cases)
+    all(&rt, SCALE, 15, &cases);
 }
 
 #[test]
-fn a_step_or_holding_cut_short(rt: HostRuntime) -> Result<(), Fail> {
+fn a_step_or_holding_cut_short(rt: HostRuntime) {
     let cases = [
         ("(", "(fault text 15 3 2 0)\n"),
         ("(s", "(fault text 15 3 3 0)\n"),
@@ -114,11 +113,11 @@ fn a_step_or_holding_cut_short(rt: HostRuntime) -> Result<(), Fail> {
         ("(holds 0 0", "(fault text 15 3 11 0)\n"),
         ("(holds 0 0)", "(fault text 15 3 12 0)\n"),
     ];
-    all(&rt, TABLE, 15, &cases)
+    all(&rt, TABLE, 15, &cases);
 }
 
 #[test]
-fn what_no_body_line_has(rt: HostRuntime) -> Result<(), Fail> {
+fn what_no_body_line_has(rt: HostRuntime) {
     let cases = [
         ("\n", "(fault text 15 3 1 0)\n"),
         (" (step 0 1)\n", "(fault text 15 3 1 0)\n"),
@@ -139,11 +138,11 @@ fn what_no_body_line_has(rt: HostRuntime) -> Result<(), Fail> {
         ("(table 2 1)\n", "(fault text 15 3 2 0)\n"),
         ("(pool 1 0)\n", "(fault text 15 3 2 0)\n"),
     ];
-    all(&rt, TABLE, 15, &cases)
+    all(&rt, TABLE, 15, &cases);
 }
 
 #[test]
-fn an_ask_cut_short(rt: HostRuntime) -> Result<(), Fail> {
+fn an_ask_cut_short(rt: HostRuntime) {
     let cases = [
         ("(a", "(fault text 15 6 3 0)\n"),
         ("(ask", "(fault text 15 6 5 0)\n"),
@@ -162,11 +161,11 @@ fn an_ask_cut_short(rt: HostRuntime) -> Result<(), Fail> {
         ("(ask 0 (and (p 0) ", "(fault text 15 6 19 0)\n"),
         ("(ask 0 (and (p 0) (p 0)", "(fault text 15 6 24 0)\n"),
     ];
-    all(&rt, ROUND, 15, &cases)
+    all(&rt, ROUND, 15, &cases);
 }
 
 #[test]
-fn what_no_ask_has(rt: HostRuntime) -> Result<(), Fail> {
+fn what_no_ask_has(rt: HostRuntime) {
     let cases = [
         ("(ask)\n", "(fault text 15 6 5 0)\n"),
         ("(ask (p 0))\n", "(fault text 15 6 6 0)\n"),
@@ -184,11 +183,11 @@ fn what_no_ask_has(rt: HostRuntime) -> Result<(), Fail> {
         ("(ask 0 (AG(p 0)))\n", "(fault text 15 6 11 0)\n"),
         ("(ask 0 (AG p))\n", "(fault text 15 6 12 0)\n"),
     ];
-    all(&rt, ROUND, 15, &cases)
+    all(&rt, ROUND, 15, &cases);
 }
 
 #[test]
-fn operands_too_few_or_too_many(rt: HostRuntime) -> Result<(), Fail> {
+fn operands_too_few_or_too_many(rt: HostRuntime) {
     let cases = [
         ("(ask 0 (and (p 0)))\n", "(fault text 15 6 18 0)\n"),
         ("(ask 0 (and (p 0)(p 0)))\n", "(fault text 15 6 18 0)\n"),
@@ -201,11 +200,11 @@ fn operands_too_few_or_too_many(rt: HostRuntime) -> Result<(), Fail> {
         ("(ask 0 (AG (p 0) (p 0)))\n", "(fault text 15 6 17 0)\n"),
         ("(ask 0 (p 0 0))\n", "(fault text 15 6 12 0)\n"),
     ];
-    all(&rt, ROUND, 15, &cases)
+    all(&rt, ROUND, 15, &cases);
 }
 
 #[test]
-fn names_that_are_not_there(rt: HostRuntime) -> Result<(), Fail> {
+fn names_that_are_not_there(rt: HostRuntime) {
     let cases = [
         ("(ask 0 (xor (p 0) (p 0)))\n", "(fault text 15 6 9 0)\n"),
         ("(ask 0 (nor (p 0) (p 0)))\n", "(fault text 15 6 11 0)\n"),
@@ -222,11 +221,11 @@ fn names_that_are_not_there(rt: HostRuntime) -> Result<(), Fail> {
         ("(ask 0 (or2 (p 0)))\n", "(fault text 15 6 11 0)\n"),
         ("(ask 0 (P 0))\n", "(fault text 15 6 9 0)\n"),
     ];
-    all(&rt, ROUND, 15, &cases)
+    all(&rt, ROUND, 15, &cases);
 }
 
 #[test]
-fn nothing_but_asks_after_an_ask(rt: HostRuntime) -> Result<(), Fail> {
+fn nothing_but_asks_after_an_ask(rt: HostRuntime) {
     let cases = [
         ("(step 0 0)\n", "(fault text 15 7 2 0)\n"),
         ("(holds 0 0)\n", "(fault text 15 7 2 0)\n"),
@@ -241,11 +240,11 @@ fn nothing_but_asks_after_an_ask(rt: HostRuntime) -> Result<(), Fail> {
         "(scale 4)\n(table 2 1)\n(step 0 1)\n(step 1 0)\n(holds 0 0)\n(ask 0 (p 0))\n",
         15,
         &cases,
-    )
+    );
 }
 
 #[test]
-fn a_pool_takes_asks_only(rt: HostRuntime) -> Result<(), Fail> {
+fn a_pool_takes_asks_only(rt: HostRuntime) {
     let cases = [
         ("(step 0 0)\n", "(fault text 15 3 2 0)\n"),
         ("(holds 0 0)\n", "(fault text 15 3 2 0)\n"),
@@ -253,11 +252,11 @@ fn a_pool_takes_asks_only(rt: HostRuntime) -> Result<(), Fail> {
         ("\n", "(fault text 15 3 1 0)\n"),
         ("(ask 0 (p 0))\n(step 0 0)\n", "(fault text 15 4 2 0)\n"),
     ];
-    all(&rt, POOL, 15, &cases)
+    all(&rt, POOL, 15, &cases);
 }
 
 #[test]
-fn a_fifth_digit(rt: HostRuntime) -> Result<(), Fail> {
+fn a_fifth_digit(rt: HostRuntime) {
     let cases = [
         ("(scale 00004)\n", "(fault text 15 1 12 0)\n"),
         ("(scale 12345)\n", "(fault text 15 1 12 0)\n"),
@@ -286,5 +285,5 @@ fn a_fifth_digit(rt: HostRuntime) -> Result<(), Fail> {
             "(fault text 15 6 15 0)\n",
         ),
     ];
-    all(&rt, "", 15, &cases)
+    all(&rt, "", 15, &cases);
 }

@@ -1,6 +1,5 @@
 //! Limits: at each, and one past it.
 use super::calls::{ROUND, add, add_times, all, lists};
-use std::test::Fail;
 use text::kept::Kept;
 
 /// One state with a proposition, so many steps and holdings, and an end.
@@ -14,43 +13,43 @@ fn many(steps: usize, holdings: usize, end: &str) -> Kept<u8, 20000> {
 }
 
 #[test]
-fn a_table_has_1024_steps(rt: HostRuntime) -> Result<(), Fail> {
+fn a_table_has_1024_steps(rt: HostRuntime) {
     let at = many(1024, 1, "(ask 0 (AG (p 0)))\n");
-    lists(&rt, at.list(), 0, b"(degree 0 0 1)\n")?;
+    lists(&rt, at.list(), 0, b"(degree 0 0 1)\n");
     let past = many(1025, 0, "");
-    lists(&rt, past.list(), 17, b"(fault text 17 1027 1 0)\n")?;
+    lists(&rt, past.list(), 17, b"(fault text 17 1027 1 0)\n");
     let later = many(1024, 1, "(step 0 0)\n");
-    lists(&rt, later.list(), 17, b"(fault text 17 1028 1 0)\n")?;
+    lists(&rt, later.list(), 17, b"(fault text 17 1028 1 0)\n");
     let asked = many(1024, 0, "(ask 0 (p 1))\n");
-    lists(&rt, asked.list(), 6, b"(fault sheet 6 1027 1 0)\n")
+    lists(&rt, asked.list(), 6, b"(fault sheet 6 1027 1 0)\n");
 }
 
 #[test]
-fn a_table_has_1024_holdings(rt: HostRuntime) -> Result<(), Fail> {
+fn a_table_has_1024_holdings(rt: HostRuntime) {
     let at = many(1, 1024, "(ask 0 (p 0))\n");
-    lists(&rt, at.list(), 0, b"(degree 0 0 1)\n")?;
+    lists(&rt, at.list(), 0, b"(degree 0 0 1)\n");
     let past = many(1, 1025, "");
-    lists(&rt, past.list(), 17, b"(fault text 17 1028 1 0)\n")?;
+    lists(&rt, past.list(), 17, b"(fault text 17 1028 1 0)\n");
     let unwalked = many(0, 1025, "");
-    lists(&rt, unwalked.list(), 17, b"(fault text 17 1027 1 0)\n")?;
+    lists(&rt, unwalked.list(), 17, b"(fault text 17 1027 1 0)\n");
     let asked = many(1, 1024, "(ask 1 (p 0))\n");
-    lists(&rt, asked.list(), 8, b"(fault sheet 8 1028 1 0)\n")
+    lists(&rt, asked.list(), 8, b"(fault sheet 8 1028 1 0)\n");
 }
 
 #[test]
-fn a_bracket_too_many_counts_after_its_word_and_a_space(rt: HostRuntime) -> Result<(), Fail> {
+fn a_bracket_too_many_counts_after_its_word_and_a_space(rt: HostRuntime) {
     let word = many(1024, 0, "(step");
-    lists(&rt, word.list(), 15, b"(fault text 15 1027 6 0)\n")?;
+    lists(&rt, word.list(), 15, b"(fault text 15 1027 6 0)\n");
     let other = many(1024, 0, "(stop 0 0)\n");
-    lists(&rt, other.list(), 15, b"(fault text 15 1027 4 0)\n")?;
+    lists(&rt, other.list(), 15, b"(fault text 15 1027 4 0)\n");
     let space = many(1024, 0, "(step ");
-    lists(&rt, space.list(), 17, b"(fault text 17 1027 1 0)\n")?;
+    lists(&rt, space.list(), 17, b"(fault text 17 1027 1 0)\n");
     let range = many(1024, 0, "(step 9 0)\n");
-    lists(&rt, range.list(), 17, b"(fault text 17 1027 1 0)\n")?;
+    lists(&rt, range.list(), 17, b"(fault text 17 1027 1 0)\n");
     let byte = many(1, 1024, "(holds\t0 0)\n");
-    lists(&rt, byte.list(), 15, b"(fault text 15 1028 7 0)\n")?;
+    lists(&rt, byte.list(), 15, b"(fault text 15 1028 7 0)\n");
     let number = many(1, 1024, "(holds 1 0)\n");
-    lists(&rt, number.list(), 17, b"(fault text 17 1028 1 0)\n")
+    lists(&rt, number.list(), 17, b"(fault text 17 1028 1 0)\n");
 }
 
 /// 512 states, each of the first so many with a step to the last, where the last of 64 propositions holds, and an end.
@@ -69,24 +68,24 @@ fn wide(states: u16, end: &str) -> Kept<u8, 20000> {
 }
 
 #[test]
-fn a_table_has_512_states_and_64_propositions(rt: HostRuntime) -> Result<(), Fail> {
+fn a_table_has_512_states_and_64_propositions(rt: HostRuntime) {
     let at = wide(
         512,
         "(ask 511 (p 63))\n(ask 510 (p 63))\n(ask 0 (EX (p 63)))\n(ask 0 (EX (p 62)))\n",
     );
     let degrees =
         "(degree 0 511 1111)\n(degree 1 510 0000)\n(degree 2 0 1111)\n(degree 3 0 0000)\n";
-    lists(&rt, at.list(), 0, degrees.as_bytes())?;
+    lists(&rt, at.list(), 0, degrees.as_bytes());
     let state = wide(512, "(ask 512 (p 63))\n");
-    lists(&rt, state.list(), 8, b"(fault sheet 8 516 1 0)\n")?;
+    lists(&rt, state.list(), 8, b"(fault sheet 8 516 1 0)\n");
     let proposition = wide(512, "(ask 511 (p 64))\n");
-    lists(&rt, proposition.list(), 6, b"(fault sheet 6 516 1 0)\n")?;
+    lists(&rt, proposition.list(), 6, b"(fault sheet 6 516 1 0)\n");
     let dead_end = wide(511, "(ask 0 (p 0))\n");
-    lists(&rt, dead_end.list(), 2, b"(fault model 2 2 1 511)\n")
+    lists(&rt, dead_end.list(), 2, b"(fault model 2 2 1 511)\n");
 }
 
 #[test]
-fn the_numbers_of_the_widest_table_end_there(rt: HostRuntime) -> Result<(), Fail> {
+fn the_numbers_of_the_widest_table_end_there(rt: HostRuntime) {
     let cases = [
         ("(step 512 0)\n", "(fault text 16 3 7 0)\n"),
         ("(step 0 512)\n", "(fault text 16 3 9 0)\n"),
@@ -96,7 +95,7 @@ fn the_numbers_of_the_widest_table_end_there(rt: HostRuntime) -> Result<(), Fail
             "(fault text 16 4 11 0)\n",
         ),
     ];
-    all(&rt, "(scale 4)\n(table 512 64)\n", 16, &cases)
+    all(&rt, "(scale 4)\n(table 512 64)\n", 16, &cases);
 }
 
 /// Two states by turns, so many asks, and an end.
@@ -109,35 +108,35 @@ fn asked(times: usize, ask: &str, end: &str) -> Kept<u8, 20000> {
 }
 
 #[test]
-fn a_text_has_8_asks(rt: HostRuntime) -> Result<(), Fail> {
+fn a_text_has_8_asks(rt: HostRuntime) {
     let ask = "(ask 0 (p 0))\n";
     let at = asked(7, ask, "(ask 1 (p 0))\n");
     let degrees =
         "(degree 0 0 1111)\n(degree 1 0 1111)\n(degree 2 0 1111)\n(degree 3 0 1111)\n(degree 4 0 1111)\n(degree 5 0 1111)\n(degree 6 0 1111)\n(degree 7 1 0000)\n";
-    lists(&rt, at.list(), 0, degrees.as_bytes())?;
+    lists(&rt, at.list(), 0, degrees.as_bytes());
     let past = asked(9, ask, "");
-    lists(&rt, past.list(), 17, b"(fault text 17 14 1 0)\n")?;
+    lists(&rt, past.list(), 17, b"(fault text 17 14 1 0)\n");
     let space = asked(8, ask, "(ask ");
-    lists(&rt, space.list(), 17, b"(fault text 17 14 1 0)\n")?;
+    lists(&rt, space.list(), 17, b"(fault text 17 14 1 0)\n");
     let word = asked(8, ask, "(ask");
-    lists(&rt, word.list(), 15, b"(fault text 15 14 5 0)\n")?;
+    lists(&rt, word.list(), 15, b"(fault text 15 14 5 0)\n");
     let refused = asked(7, ask, "(ask 2 (p 0))\n");
-    lists(&rt, refused.list(), 8, b"(fault sheet 8 13 1 0)\n")
+    lists(&rt, refused.list(), 8, b"(fault sheet 8 13 1 0)\n");
 }
 
 #[test]
-fn a_text_has_32_rows_in_all_its_asks(rt: HostRuntime) -> Result<(), Fail> {
+fn a_text_has_32_rows_in_all_its_asks(rt: HostRuntime) {
     let ask = "(ask 1 (not (not (not (p 0)))))\n";
     let at = asked(8, ask, "");
     let degrees =
         "(degree 0 1 1111)\n(degree 1 1 1111)\n(degree 2 1 1111)\n(degree 3 1 1111)\n(degree 4 1 1111)\n(degree 5 1 1111)\n(degree 6 1 1111)\n(degree 7 1 1111)\n";
-    lists(&rt, at.list(), 0, degrees.as_bytes())?;
+    lists(&rt, at.list(), 0, degrees.as_bytes());
     let past = asked(7, ask, "(ask 1 (not (not (not (not (p 0))))))\n");
-    lists(&rt, past.list(), 17, b"(fault text 17 13 28 0)\n")?;
+    lists(&rt, past.list(), 17, b"(fault text 17 13 28 0)\n");
     let cut = asked(7, ask, "(ask 1 (not (not (not (not (");
-    lists(&rt, cut.list(), 17, b"(fault text 17 13 28 0)\n")?;
+    lists(&rt, cut.list(), 17, b"(fault text 17 13 28 0)\n");
     let earlier = asked(7, ask, "(ask 1 (not (not (not (nor (p 0))))))\n");
-    lists(&rt, earlier.list(), 15, b"(fault text 15 13 26 0)\n")
+    lists(&rt, earlier.list(), 15, b"(fault text 15 13 26 0)\n");
 }
 
 /// Two states by turns, a head, an opening so many times, and an end.
@@ -151,7 +150,7 @@ fn nested(head: &str, opening: &str, times: usize, end: &str) -> Kept<u8, 20000>
 }
 
 #[test]
-fn a_text_has_32_rows_in_few_asks(rt: HostRuntime) -> Result<(), Fail> {
+fn a_text_has_32_rows_in_few_asks(rt: HostRuntime) {
     let either = "(or (p 0) ";
     let at = nested(
         "(ask 1 (p 0))\n(ask 0 ",
@@ -159,30 +158,30 @@ fn a_text_has_32_rows_in_few_asks(rt: HostRuntime) -> Result<(), Fail> {
         15,
         "(p 0)))))))))))))))))\n",
     );
-    lists(&rt, at.list(), 0, b"(degree 0 1 0000)\n(degree 1 0 1111)\n")?;
+    lists(&rt, at.list(), 0, b"(degree 0 1 0000)\n(degree 1 0 1111)\n");
     let past = nested("(ask 0 (not (p 0)))\n(ask 0 ", either, 15, "(p 0)");
-    lists(&rt, past.list(), 17, b"(fault text 17 7 158 0)\n")?;
+    lists(&rt, past.list(), 17, b"(fault text 17 7 158 0)\n");
     let one = nested(
         "(ask 0 (or (not (p 0)) ",
         either,
         14,
         "(p 0)))))))))))))))))\n",
     );
-    lists(&rt, one.list(), 0, b"(degree 0 0 1111)\n")?;
+    lists(&rt, one.list(), 0, b"(degree 0 0 1111)\n");
     let too_many = nested("(ask 0 (or (not (not (p 0))) ", either, 14, "(p 0)");
-    lists(&rt, too_many.list(), 17, b"(fault text 17 6 170 0)\n")
+    lists(&rt, too_many.list(), 17, b"(fault text 17 6 170 0)\n");
 }
 
 #[test]
-fn a_formula_has_16_brackets_open(rt: HostRuntime) -> Result<(), Fail> {
+fn a_formula_has_16_brackets_open(rt: HostRuntime) {
     let at = nested("(ask 0 ", "(not ", 15, "(p 0)))))))))))))))))\n");
-    lists(&rt, at.list(), 0, b"(degree 0 0 0000)\n")?;
+    lists(&rt, at.list(), 0, b"(degree 0 0 0000)\n");
     let past = nested("(ask 0 ", "(not ", 16, "(p 0))))))))))))))))))\n");
-    lists(&rt, past.list(), 17, b"(fault text 17 6 88 0)\n")?;
+    lists(&rt, past.list(), 17, b"(fault text 17 6 88 0)\n");
     let cut = nested("(ask 0 ", "(AG ", 16, "(");
-    lists(&rt, cut.list(), 17, b"(fault text 17 6 72 0)\n")?;
+    lists(&rt, cut.list(), 17, b"(fault text 17 6 72 0)\n");
     let no_bracket = nested("(ask 0 ", "(AG ", 16, "p");
-    lists(&rt, no_bracket.list(), 15, b"(fault text 15 6 72 0)\n")?;
+    lists(&rt, no_bracket.list(), 15, b"(fault text 15 6 72 0)\n");
     let second = nested("(ask 0 ", "(and (p 0) ", 16, "");
-    lists(&rt, second.list(), 17, b"(fault text 17 6 178 0)\n")
+    lists(&rt, second.list(), 17, b"(fault text 17 6 178 0)\n");
 }

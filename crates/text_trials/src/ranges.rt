@@ -1,9 +1,8 @@
 //! Numbers out of their ranges.
 use super::calls::{SCALE, TABLE, all};
-use std::test::Fail;
 
 #[test]
-fn a_scale_has_1_or_4(rt: HostRuntime) -> Result<(), Fail> {
+fn a_scale_has_1_or_4(rt: HostRuntime) {
     let cases = [
         ("(scale 0)\n", "(fault text 16 1 8 0)\n"),
         ("(scale 2)\n", "(fault text 16 1 8 0)\n"),
@@ -14,11 +13,11 @@ fn a_scale_has_1_or_4(rt: HostRuntime) -> Result<(), Fail> {
         ("(scale   2)\n", "(fault text 16 1 10 0)\n"),
         ("(scale 0002)\n", "(fault text 16 1 8 0)\n"),
     ];
-    all(&rt, "", 16, &cases)
+    all(&rt, "", 16, &cases);
 }
 
 #[test]
-fn the_numbers_of_a_model(rt: HostRuntime) -> Result<(), Fail> {
+fn the_numbers_of_a_model(rt: HostRuntime) {
     let cases = [
         ("(table 0 1)\n", "(fault text 16 2 8 0)\n"),
         ("(table 513 1)\n", "(fault text 16 2 8 0)\n"),
@@ -34,11 +33,11 @@ fn the_numbers_of_a_model(rt: HostRuntime) -> Result<(), Fail> {
         ("(pool 4 2)\n", "(fault text 16 2 9 0)\n"),
         ("(pool 5 2)\n", "(fault text 16 2 7 0)\n"),
     ];
-    all(&rt, SCALE, 16, &cases)
+    all(&rt, SCALE, 16, &cases);
 }
 
 #[test]
-fn states_and_propositions_of_the_table(rt: HostRuntime) -> Result<(), Fail> {
+fn states_and_propositions_of_the_table(rt: HostRuntime) {
     let cases = [
         ("(step 2 0)\n", "(fault text 16 3 7 0)\n"),
         ("(step 0 2)\n", "(fault text 16 3 9 0)\n"),
@@ -51,12 +50,12 @@ fn states_and_propositions_of_the_table(rt: HostRuntime) -> Result<(), Fail> {
         ("(step 0 1)\n(holds 0 9)\n", "(fault text 16 4 10 0)\n"),
     ];
     let of_none = [("(holds 0 0)\n", "(fault text 16 3 8 0)\n")];
-    all(&rt, TABLE, 16, &cases)?;
-    all(&rt, "(scale 4)\n(table 2 0)\n", 16, &of_none)
+    all(&rt, TABLE, 16, &cases);
+    all(&rt, "(scale 4)\n(table 2 0)\n", 16, &of_none);
 }
 
 #[test]
-fn a_range_wins_over_a_later_form_fault(rt: HostRuntime) -> Result<(), Fail> {
+fn a_range_wins_over_a_later_form_fault(rt: HostRuntime) {
     let cases = [
         ("(scale 2", "(fault text 16 1 8 0)\n"),
         ("(scale 2x\n", "(fault text 16 1 8 0)\n"),
@@ -84,11 +83,11 @@ fn a_range_wins_over_a_later_form_fault(rt: HostRuntime) -> Result<(), Fail> {
             "(fault text 16 3 7 0)\n",
         ),
     ];
-    all(&rt, "", 16, &cases)
+    all(&rt, "", 16, &cases);
 }
 
 #[test]
-fn an_earlier_form_fault_wins_over_a_range(rt: HostRuntime) -> Result<(), Fail> {
+fn an_earlier_form_fault_wins_over_a_range(rt: HostRuntime) {
     let cases = [
         ("(skale 2)\n", "(fault text 15 1 3 0)\n"),
         ("(scale 4))\n(table 513 0)\n", "(fault text 15 1 10 0)\n"),
@@ -105,5 +104,5 @@ fn an_earlier_form_fault_wins_over_a_range(rt: HostRuntime) -> Result<(), Fail> 
             "(fault text 15 3 10 0)\n",
         ),
     ];
-    all(&rt, "", 15, &cases)
+    all(&rt, "", 15, &cases);
 }

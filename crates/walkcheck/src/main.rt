@@ -6,6 +6,7 @@ ghost use Rattle.std.specs.Prelude.{◌≤◌, IfOk};
 use listing::listing::list;
 use std::io;
 use std::io::{Read, Write};
+use std::process::ExitCode;
 
 /// One byte more than the listing call takes, so that a longer input is refused and not cut.
 const ROOM: usize = 16385;
@@ -28,16 +29,16 @@ fn fill(input: &mut impl Read, buffer: &mut [u8; ROOM]) -> io::Result<usize>
     Ok(n)
 }
 
-fn main(rt: HostRuntime) -> io::Result<()> {
+fn main(rt: HostRuntime) -> io::Result<ExitCode> {
     let mut text = [0u8; ROOM];
     let n = fill(&mut rt.stdin(), &mut text)?;
     let mut buffer = [0u8; 256];
     let listed = list(&text[0..n], &mut buffer);
     let end = listed.written;
     rt.stdout().write_all(&buffer[0..end])?;
-    if listed.number == 0 {
-        Ok(())
+    Ok(if listed.number == 0 {
+        ExitCode::SUCCESS
     } else {
-        Err(io::Error::other("fault"))
-    }
+        ExitCode::FAILURE
+    })
 }

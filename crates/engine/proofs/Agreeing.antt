@@ -1,8 +1,8 @@
 -- A search depends on its sets below the count of states only.
-use Rattle.std.proofs.Common.{◌≡◌, ℕ, suc, ◌<◌, ◌≤◌, Bool, true, false, cond, ◌&&◌, ◌||◌, ltb, sym, refl, ap, ◌∙◌}
+use Rattle.std.proofs.Common.{ℕ, suc, Bool, true, false, refl, ◌∙◌}
 use Rattle.model.specs.Meaning.{Meaning}
-use Rattle.logic.specs.FixedPoints.{pre, rounds, lfp, gfp}
-use Rattle.logic.specs.Searches.{H, Task, task, found, guide_of, sought, Guides, Joined}
+use Rattle.logic.specs.FixedPoints.{lfp, gfp}
+use Rattle.logic.specs.Searches.{H, task, found, guide_of, sought, Guides, Joined}
 use Rattle.logic.specs.Sets.{Set, empty, full}
 use Rattle.logic.specs.Walks.{Operator}
 use Rattle.logic.specs.Walks.Operator.{next, finally, globally, until, weak}

@@ -1,5 +1,5 @@
 -- The sets of a task, as arrays have them.
-use Rattle.std.proofs.Common.{◌≡◌, ℕ, ◌<◌, ◌≤◌, Bool, true, false, not, ◌&&◌, ◌||◌, get_or, replicate, refl, ap, ◌∙◌, arith}
+use Rattle.std.proofs.Common.{◌≡◌, ℕ, ◌≤◌, Bool, true, false, not, ◌&&◌, ◌||◌, get_or, replicate, refl, ap, ◌∙◌, arith}
 use lib.ListN.{get_or-replicate}
 use Rattle.logic.specs.Searches.{neither}
 use Rattle.logic.specs.Sets.{Set, empty, full, union, complement}

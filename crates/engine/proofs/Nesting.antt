@@ -1,7 +1,6 @@
 -- Nested fixed points of G by F alone.
-use Rattle.std.proofs.Common.{◌≡◌, ℕ, zero, suc, ◌+◌, ◌<◌, ◌≤◌, Bool, true, false, not, ◌&&◌, ◌||◌, ltb, List, get_or, replicate, sym, refl, ap, ◌∙◌, subst, add-one, arith}
+use Rattle.std.proofs.Common.{◌≡◌, ℕ, zero, suc, ◌+◌, ◌<◌, ◌≤◌, Bool, true, false, not, ◌&&◌, ◌||◌, ltb, sym, refl, ap, ◌∙◌, subst, add-one, arith}
 use native.Mathlib.Decide.{le_ind}
-use lib.ListN.{get_or-replicate}
 use Rattle.std.proofs.lemmas.Bool.{lt-ltb, or_left}
 use Rattle.model.specs.Meaning.{Meaning}
 use Rattle.logic.proofs.Fixed.{fixed_points_found}
@@ -9,8 +8,8 @@ use Rattle.logic.proofs.Rounds.{rounds-within}
 use Rattle.logic.proofs.Rules.{F_monotone, G_monotone}
 use Rattle.logic.proofs.Sets.{Monotone, same_test, within_itself}
 use Rattle.logic.proofs.Steps.{pre-within}
-use Rattle.logic.specs.FixedPoints.{pre, F, G, rounds, lfp, gfp}
-use Rattle.logic.specs.Sets.{Set, ◌∈◌, empty, full}
+use Rattle.logic.specs.FixedPoints.{pre, F, G, rounds, gfp}
+use Rattle.logic.specs.Sets.{Set, empty, full}
 use Rattle.engine.specs.Marks.{members, round_of, before, ours}
 use Rattle.engine.specs.Rounded.{Joins, Leaves, joined, Round, step_f, Holds, Applied, inner, Recurring, settled}
 use Rattle.engine.specs.declared.rounds.Rounds.{Rounds}

@@ -1,6 +1,5 @@
 -- Nested fixed points of H by F alone.
 use Rattle.std.proofs.Common.{◌≡◌, ℕ, zero, suc, ◌+◌, ◌<◌, ◌≤◌, Bool, true, false, not, ◌&&◌, ◌||◌, ltb, sym, refl, ap, ◌∙◌, subst, ⊎_elim, add-one, arith}
-use native.Mathlib.Decide.{le_ind}
 use Rattle.std.proofs.lemmas.Bool.{lt-ltb, and_from, and_parts, or_cases, or_left, or_right}
 use Rattle.model.specs.Meaning.{Meaning}
 use Rattle.logic.proofs.Rounds.{rounds-within, gfp_open, gfp_shut}
@@ -16,7 +15,7 @@ use Rattle.engine.specs.Rounded.{Joins, Leaves, step_f, Holds, Applied}
 use Rattle.engine.specs.declared.rounds.Rounds.{Rounds}
 use Rattle.engine.specs.declared.sets.StateSet.{StateSet}
 use Rattle.engine.proofs.Growing.{alike}
-use Rattle.engine.proofs.Nesting.{Same, pre_alike, still-rounds}
+use Rattle.engine.proofs.Nesting.{Same, still-rounds}
 use Rattle.engine.proofs.Turning.{rounds_alike}
 
 -- H is F of what F makes of its last set

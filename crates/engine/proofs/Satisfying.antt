@@ -1,12 +1,12 @@
 -- Sets from rounds, and fixed points of sets that are known below a count.
-use Rattle.std.proofs.Common.{◌≡◌, ℕ, suc, ◌+◌, ◌<◌, ◌≤◌, Bool, true, false, not, ◌&&◌, ◌||◌, length, get_or, replicate, sym, refl, ap, ◌∙◌, ⊎_elim, arith}
+use Rattle.std.proofs.Common.{◌≡◌, ℕ, suc, ◌+◌, Bool, false, not, get_or, replicate, refl, ap, ◌∙◌, ⊎_elim, arith}
 use mathlib.Core.Path.{fun_ext}
 use lib.ListN.{get_or-replicate, length-replicate}
 use Rattle.std.proofs.lemmas.List.{get_or_past}
 use Rattle.std.proofs.lemmas.Bool.{cases_lt}
 use Rattle.model.specs.Meaning.{Meaning}
 use Rattle.logic.proofs.Rules.{F_monotone}
-use Rattle.logic.specs.FixedPoints.{pre, F, rounds, lfp}
+use Rattle.logic.specs.FixedPoints.{F, lfp}
 use Rattle.logic.specs.Sets.{Set, empty}
 use Rattle.engine.specs.Marks.{members, before, ours}
 use Rattle.engine.specs.Rounded.{Holds}

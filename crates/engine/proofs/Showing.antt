@@ -1,5 +1,5 @@
 -- A search for a task shows a walk, or that there is none.
-use Rattle.std.proofs.Common.{◌≡◌, ℕ, ◌<◌, ◌≤◌, Bool, true, false, List, Some, None, Option, sym, refl, ap, ◌∙◌, subst}
+use Rattle.std.proofs.Common.{◌≡◌, ℕ, ◌<◌, Bool, List, Some, None, Option, sym, ap, ◌∙◌, subst}
 use Rattle.model.specs.Meaning.{Meaning, Lawful}
 use Rattle.model.specs.Walkable.{Total}
 use Rattle.scale.specs.declared.reading.Reading.{Reading}
@@ -9,7 +9,6 @@ use Rattle.logic.specs.Sets.{Set}
 use Rattle.logic.specs.Walks.{Quantifier, Operator}
 use Rattle.engine.specs.Lassos.{Searched}
 use Rattle.engine.specs.Marks.{members}
-use Rattle.engine.specs.Rounded.{Holds}
 use Rattle.engine.specs.Shown.{Carries, ShownBy}
 use Rattle.engine.specs.declared.tasks.Task.{Task}
 use Rattle.engine.proofs.Agreeing.{same-sought, same-guides}

@@ -1,13 +1,13 @@
 -- A greatest F is a least F of the other side.
-use Rattle.std.proofs.Common.{◌≡◌, ℕ, zero, suc, ◌<◌, ◌≤◌, Bool, true, false, not, ◌&&◌, ◌||◌, sym, refl, ap, ◌∙◌, ⊎_elim}
+use Rattle.std.proofs.Common.{◌≡◌, ℕ, zero, suc, ◌<◌, Bool, true, false, not, ◌&&◌, ◌||◌, sym, refl, ap, ◌∙◌, ⊎_elim}
 use Rattle.std.proofs.lemmas.Bool.{cases_Bool, both_ways, not-true, not-false, not_from_true, not_from_false}
 use Rattle.model.specs.Meaning.{Meaning}
 use Rattle.logic.proofs.Rounds.{rounds_turned, turned}
 use Rattle.logic.proofs.Rules.{F_monotone}
 use Rattle.logic.proofs.Steps.{pre_parts, pre_dual}
 use Rattle.logic.specs.FixedPoints.{pre, F, rounds}
-use Rattle.logic.specs.Sets.{Set, ◌∈◌, empty, full, complement}
-use Rattle.engine.specs.Marks.{members, before, ours}
+use Rattle.logic.specs.Sets.{Set, ◌∈◌, empty, complement}
+use Rattle.engine.specs.Marks.{members, ours}
 use Rattle.engine.specs.Rounded.{Joins, Leaves, Turned, step_f}
 use Rattle.engine.specs.declared.rounds.Rounds.{Rounds}
 use Rattle.engine.specs.declared.sets.StateSet.{StateSet}

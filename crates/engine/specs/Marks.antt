@@ -1,5 +1,5 @@
 -- Sets of states and rounds of joining, as arrays hold them.
-use Rattle.std.specs.Prelude.{ℕ, Bool, false, List, nat_lt, slice_index, slice_index_or}
+use Rattle.std.specs.Prelude.{ℕ, Bool, false, nat_lt, slice_index, slice_index_or}
 use Rattle.logic.specs.Sets.{Set}
 use Rattle.engine.specs.declared.rounds.Rounds.{Rounds}
 use Rattle.engine.specs.declared.sets.StateSet.{StateSet}

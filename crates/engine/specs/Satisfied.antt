@@ -1,5 +1,5 @@
 -- What the engine answers for a path row at one level.
-use Rattle.std.specs.Prelude.{◌≡◌, ℕ, ◌<◌, Bool, true, false}
+use Rattle.std.specs.Prelude.{Bool, true, false}
 use Rattle.logic.specs.Walks.{Quantifier, Operator as Asked}
 use Rattle.logic.specs.Walks.Operator.{next, finally, globally, until, weak}
 use Rattle.logic.specs.Walks.Quantifier.{someWalk, everyWalk}

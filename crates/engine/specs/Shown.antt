@@ -1,5 +1,5 @@
 -- What the engine answers when it is asked for one walk.
-use Rattle.std.specs.Prelude.{◌≡◌, ℕ, Bool, List, Some, None, Option}
+use Rattle.std.specs.Prelude.{◌≡◌, ℕ, List, Some, None, Option}
 use Rattle.model.specs.Meaning.{Meaning}
 use Rattle.scale.specs.declared.reading.Reading.{Reading}
 use Rattle.logic.specs.Searches.{Task as Asked, Shows}

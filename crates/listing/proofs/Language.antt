@@ -6,7 +6,7 @@ use Rattle.model.specs.Faults.{Refusal, refusal}
 use Rattle.model.specs.Meaning.{Meaning}
 use Rattle.model.specs.Walkable.{walkability, refused_at, dead_end}
 use Rattle.scale.specs.Grades.{Grades}
-use Rattle.sheet.specs.Calls.{refuse_if, and_then, open_answer, enter_answer, enter_leaves, degree_answer, entering, fitting, roomy, formed, readable, byte_at}
+use Rattle.sheet.specs.Calls.{refuse_if, and_then, open_answer, enter_answer, enter_leaves, degree_answer, entering, fitting, roomy, formed, byte_at}
 use Rattle.sheet.specs.Kinds.{operands_of}
 use Rattle.sheet.specs.States.{State}
 use Rattle.sheet.specs.declared.row.Row.{Row}
@@ -23,7 +23,7 @@ use Rattle.grammar.proofs.Theorems.{read_where_lawful, form_fault_where_unfit}
 use Rattle.listing.specs.declared.answers.Answer.{Answer}
 use Rattle.listing.specs.Faults.{Telling}
 use Rattle.listing.specs.Laws.{OfLanguage, ListedByLanguage}
-use Rattle.listing.specs.Listings.{Given, lines_of, listing, script_of, answers_to}
+use Rattle.listing.specs.Listings.{Given, lines_of, listing, script_of}
 use Rattle.listing.specs.Runs.{then, told_at, enter_all, ask_one, ask_from, ask_all, meaning_of, grades_of, answers_of}
 
 -- the sheet refuses with numbers up to 13

@@ -4,7 +4,6 @@ use Rattle.model.specs.Faults.{Refusal}
 use Rattle.sheet.specs.Faults.{told as toldOfSheet}
 use Rattle.text.specs.declared.fault.ReadFault.{ReadFault}
 use Rattle.text.specs.declared.fault.ReadFault.TheVariants as read
-use Rattle.listing.specs.declared.fault.Place.{Place}
 use Rattle.listing.specs.declared.fault.TextFault.{TextFault}
 use Rattle.listing.specs.declared.fault.TextFault.TheVariants.{Buffer, Long, Form, Range, Many, Sheet}
 use Rattle.listing.specs.Places.{place_of}

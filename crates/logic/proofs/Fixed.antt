@@ -1,8 +1,7 @@
 -- lfp and gfp are the least and the greatest fixed points.
-use Rattle.std.proofs.Common.{◌≡◌, ℕ, suc}
-use Rattle.model.specs.Meaning.{Meaning}
+use Rattle.std.proofs.Common.{ℕ, suc}
 use Rattle.logic.specs.FixedPoints.{F, G, lfp, gfp}
-use Rattle.logic.specs.Sets.{Set, empty, full, Within}
+use Rattle.logic.specs.Sets.{Set, empty, full}
 use Rattle.logic.specs.Theorems.{LeastFixed, GreatestFixed, FixedPointsFound}
 use Rattle.logic.proofs.Rounds.{rounds-within, lfp_shut, lfp_open, lfp-least, gfp_open, gfp_shut, gfp-greatest}
 use Rattle.logic.proofs.Rules.{F_monotone, G_monotone}

@@ -1,5 +1,5 @@
 -- Sets and walks agree at every level, and a higher level is harder to reach.
-use Rattle.std.proofs.Common.{◌≡◌, ℕ, suc, ◌+◌, ◌<◌, ◌≤◌, Bool, true, false, leb, ◌⊎◌, ◌↔◌, is_some, Some, None, Option, sym, refl, ap, subst, inl, inr, ⊎_elim, arith}
+use Rattle.std.proofs.Common.{◌≡◌, ℕ, ◌+◌, ◌<◌, ◌≤◌, true, ◌⊎◌, ◌↔◌, is_some, Some, None, Option, sym, refl, ap, subst, inl, inr, ⊎_elim, arith}
 use Rattle.std.proofs.lemmas.Bool.{cases_Bool, both_ways, leb-true, le-leb}
 use Rattle.model.specs.Meaning.{Meaning, Lawful}
 use Rattle.model.specs.Walkable.{Total}
@@ -13,7 +13,7 @@ use Rattle.logic.specs.Kinds.Kind.{path}
 use Rattle.logic.specs.Satisfaction.{sat_path, sat}
 use Rattle.logic.specs.Sets.{Set, ◌∈◌, Within}
 use Rattle.logic.specs.Theorems.{SetsAreWalks, BrokenBySomeWalk, LevelsShrink}
-use Rattle.logic.specs.Walks.{Walk, Operator, Often, Seen, Meets, Quantifier, Quantified}
+use Rattle.logic.specs.Walks.{Operator, Often, Seen, Meets, Quantifier, Quantified}
 use Rattle.logic.specs.Walks.Operator.{next, finally, globally, until, weak}
 use Rattle.logic.specs.Walks.Quantifier.{someWalk, everyWalk}
 use Rattle.logic.proofs.Meeting.{often_map}

@@ -1,18 +1,17 @@
 -- The degree of a row: where it reaches each level, and that it is the row's one truth value.
-use Rattle.std.proofs.Common.{◌≡◌, ℕ, zero, suc, ◌<◌, ◌≤◌, min, max, Bool, true, false, cond, not, ◌&&◌, ◌||◌, ltb, leb, ◌⊎◌, ◌↔◌, sym, refl, ap, ◌∙◌, subst, inl, inr, ⊎_elim, arith}
-use Rattle.std.proofs.lemmas.Bool.{cases_Bool, cases_lt, cases_order, both_ways, leb-true, leb-false, le-leb, lt-leb, ltb-true, lt-ltb, or_cases, or_left, or_right, and_parts, and_from, not-true, not_from_false, cond-true, cond-false}
+use Rattle.std.proofs.Common.{◌≡◌, ℕ, zero, suc, ◌<◌, ◌≤◌, Bool, true, false, cond, not, ◌&&◌, ◌||◌, ltb, leb, ◌↔◌, sym, refl, ap, ◌∙◌, subst, ⊎_elim, arith}
+use Rattle.std.proofs.lemmas.Bool.{cases_Bool, cases_lt, cases_order, both_ways, leb-true, leb-false, le-leb, lt-ltb, or_cases, or_left, or_right, and_parts, and_from, not-true, not_from_false}
 use Rattle.std.proofs.lemmas.Bool.Decides.{nat_tests}
 use Rattle.model.proofs.Below.{every_decides}
 use Rattle.model.specs.Below.{every}
 use Rattle.model.specs.Meaning.{Meaning, Lawful}
-use Rattle.model.specs.Walkable.{Total}
 use Rattle.scale.specs.Grades.{Grades, Lawful as Orderly}
-use Rattle.logic.specs.Kinds.{Kind, reach, Highest, Value}
+use Rattle.logic.specs.Kinds.{reach, Highest}
 use Rattle.logic.specs.Kinds.Kind.{prop, or, and, neg, imp, path}
 use Rattle.logic.specs.Satisfaction.{sat, highest, row_degree}
-use Rattle.logic.specs.Sets.{Set, ◌∈◌}
-use Rattle.logic.specs.Theorems.{OnScale, ReachesWhereSat, RowDegreeIsValue, ValueUnique}
-use Rattle.logic.specs.Walks.{Operator, Quantifier, Quantified, Meets, Walk}
+use Rattle.logic.specs.Sets.{◌∈◌}
+use Rattle.logic.specs.Theorems.{ReachesWhereSat, RowDegreeIsValue, ValueUnique}
+use Rattle.logic.specs.Walks.{Operator, Quantifier, Quantified, Meets}
 use Rattle.logic.proofs.Levels.{At, read, meets_map, sat_is_walks, path_shrinks}
 use Rattle.logic.proofs.Outcomes.{quantified_map, inside}
 use Rattle.logic.proofs.Search.{split}

@@ -1,10 +1,10 @@
 -- F and G as operators with a set to be reached and a set to be kept, and their duals.
-use Rattle.std.proofs.Common.{◌≡◌, ℕ, zero, suc, ◌<◌, Bool, true, false, not, ◌&&◌, ◌||◌, ◌⊎◌, sym, refl, ap, ◌∙◌, inl, inr, ⊎_elim}
+use Rattle.std.proofs.Common.{◌≡◌, ℕ, zero, suc, true, false, not, ◌&&◌, ◌||◌, ◌⊎◌, sym, refl, ap, ◌∙◌, inl, inr, ⊎_elim}
 use Rattle.std.proofs.lemmas.Bool.{and_parts, and_from, and_cases, or_cases, or_parts, or_left, or_right, not-true, not-false, not_from_false}
 use Rattle.model.specs.Meaning.{Meaning}
 use Rattle.logic.specs.FixedPoints.{pre, F, G, rounds, lfp, gfp}
 use Rattle.logic.specs.Sets.{Set, ◌∈◌, empty, full, complement, Within}
-use Rattle.logic.proofs.Joining.{Rule, Part, reach_in, keep_in}
+use Rattle.logic.proofs.Joining.{Rule, reach_in, keep_in}
 use Rattle.logic.proofs.Joining.Part.{at, to, on}
 use Rattle.logic.proofs.Sets.{complement_turns, complement_twice}
 use Rattle.logic.proofs.Steps.{pre-within, pre_dual}

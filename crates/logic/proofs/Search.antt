@@ -1,5 +1,5 @@
 -- Search below a number: for a number that passes, for a least measure, and for two like values among too many.
-use Rattle.std.proofs.Common.{◌≡◌, ℕ, zero, suc, ◌<◌, ◌≤◌, Bool, true, false, cond, eqb, ◌≢◌, ◌⊎◌, sym, refl, ◌∙◌, inl, inr, ⊎_elim, arith}
+use Rattle.std.proofs.Common.{◌≡◌, ℕ, zero, suc, ◌<◌, ◌≤◌, false, cond, eqb, ◌≢◌, ◌⊎◌, sym, ◌∙◌, inl, inr, ⊎_elim, arith}
 use Rattle.std.proofs.lemmas.Bool.{cases_lt, cases_Bool, cases_eq, eqb-true, eqb-false, both_ways, ne_eqb, eq-eqb}
 use Rattle.logic.specs.Sets.{Set, ◌∈◌}
 

@@ -1,9 +1,9 @@
 -- Inclusion, complements and duals.
-use Rattle.std.proofs.Common.{◌≡◌, ℕ, ◌<◌, Bool, true, false, not, sym, refl, ⊎_elim}
+use Rattle.std.proofs.Common.{◌≡◌, ℕ, Bool, true, false, sym, refl, ⊎_elim}
 use mathlib.Core.Path.{fun_ext}
 use mathlib.Core.Bool.{not-not}
 use Rattle.std.proofs.lemmas.Bool.{cases_Bool, both_ways, not-true, not_from_false}
-use Rattle.logic.specs.Sets.{Set, ◌∈◌, complement, Within}
+use Rattle.logic.specs.Sets.{Set, complement, Within}
 
 abbrev pub Monotone : ℕ → (Set → Set) → Type 0
 Monotone n f = (T U : Set) → Within n T U → Within n (f T) (f U)

@@ -1,8 +1,7 @@
 -- Steps into a set.
-use Rattle.std.proofs.Common.{◌≡◌, ℕ, ◌<◌, Bool, true, false, cond, not, ◌&&◌, ◌||◌, ◌⊎◌, refl, inl, inr, ⊎_elim}
+use Rattle.std.proofs.Common.{◌≡◌, ℕ, ◌<◌, true, false, not, ◌&&◌, ◌||◌, ◌⊎◌, inl, inr, ⊎_elim}
 use Rattle.std.proofs.lemmas.Bool.{cases_Bool, both_ways, and_parts, and_from, or_cases, or_left, or_right, not-true, not_from_true, not_from_false}
 use Rattle.model.proofs.Below.{some_decides, every_decides}
-use Rattle.model.specs.Below.{some, every}
 use Rattle.model.specs.Meaning.{Meaning}
 use Rattle.logic.specs.FixedPoints.{pre}
 use Rattle.logic.specs.Sets.{Set, ◌∈◌, complement, Within}

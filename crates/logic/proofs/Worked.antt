@@ -1,5 +1,5 @@
 -- The table of trials is computed by the sets, and the theorems make it one of truth values.
-use Rattle.std.proofs.Common.{◌≡◌, ℕ, ◌<◌, ◌≤◌, Bool, true, false, ◌&&◌, eqb, ltb, List, [], ◌∷◌, length, Some, sym, refl, ◌∙◌, subst, ⊎_elim, arith}
+use Rattle.std.proofs.Common.{◌≡◌, ℕ, Bool, true, ◌&&◌, eqb, ltb, List, [], ◌∷◌, length, refl, ◌∙◌, subst, ⊎_elim, arith}
 use Rattle.std.proofs.ByRecursion.{All-get_or}
 use Rattle.std.proofs.lemmas.Bool.{and_parts, eqb-true, ltb-true, cases_Bool}
 use Rattle.std.specs.List.{AllByRecursion as All}
@@ -7,12 +7,10 @@ use Rattle.model.proofs.Below.{some_decides, every_decides}
 use Rattle.model.specs.Below.{some, every}
 use Rattle.model.specs.Lawfulness.{listed_lawful, pooled_lawful, paired_lawful}
 use Rattle.model.specs.Meaning.{Meaning, Lawful}
-use Rattle.model.specs.Pairs.{paired}
-use Rattle.model.specs.Pools.{pooled}
 use Rattle.model.specs.Walkable.{Total}
 use Rattle.scale.specs.Grades.{Lawful as Orderly, five_valued}
 use Rattle.scale.specs.Lawfulness.{boolean_lawful, five_lawful}
-use Rattle.logic.specs.FixedPoints.{choosing, pre, F, G}
+use Rattle.logic.specs.FixedPoints.{pre, F, G}
 use Rattle.logic.specs.Formulas.{Truth, unused}
 use Rattle.logic.specs.Kinds.{Kind, reach, Highest}
 use Rattle.logic.specs.Kinds.Kind.{path}

@@ -1,5 +1,5 @@
 -- Steps into a set, the operators F and G, and their least and greatest fixed points.
-use Rattle.std.specs.Prelude.{ℕ, zero, suc, Bool, cond, not, ◌&&◌, ◌||◌}
+use Rattle.std.specs.Prelude.{ℕ, zero, suc, cond, not, ◌&&◌, ◌||◌}
 use Rattle.model.specs.Below.{some, every}
 use Rattle.model.specs.Meaning.{Meaning}
 use Rattle.logic.specs.Sets.{Set, empty, full}

@@ -6,7 +6,7 @@ use Rattle.scale.specs.Grades.{Grades}
 use Rattle.scale.specs.declared.reading.Reading.{Reading}
 use Rattle.scale.specs.declared.reading.Reading.TheVariants.{Sometime, InfinitelyOften, EventuallyAlways, Always}
 use Rattle.logic.specs.Sets.{Set, empty, full, union}
-use Rattle.logic.specs.Walks.{Quantifier, Operator}
+use Rattle.logic.specs.Walks.{Operator}
 use Rattle.logic.specs.Walks.Operator.{next, finally, globally, until, weak}
 use Rattle.logic.specs.FixedPoints.{choosing, pre, F, G, lfp, gfp}
 use Rattle.logic.specs.Kinds.{Kind, reach}

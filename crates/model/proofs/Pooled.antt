@@ -1,18 +1,18 @@
 -- The moves of the threads of a pool, by digits and by numbers.
-use Rattle.std.proofs.Common.{◌≡◌, ℕ, suc, ◌+◌, ◌-◌, ◌*◌, ◌^◌, ◌<◌, ◌≤◌, Bool, true, false, cond, not, ◌&&◌, ◌||◌, eqb, ltb, ◌⊎◌, Some, None, Option, sym, refl, ap, ◌∙◌, subst, inl, inr, ⊎_elim, add-one, arith}
+use Rattle.std.proofs.Common.{◌≡◌, ℕ, ◌+◌, ◌-◌, ◌*◌, ◌^◌, ◌<◌, ◌≤◌, Bool, true, cond, ◌&&◌, ◌||◌, eqb, ltb, Option, sym, ap, ◌∙◌, subst, ⊎_elim, add-one, arith}
 use native.Mathlib.Nat.{pow-le-pow_right}
 use Rattle.std.proofs.lemmas.Nat.{mul-le}
 use Rattle.std.proofs.lemmas.Bool.{and_parts, and_from, or_cases, or_left, or_right, eqb-true, eq-eqb, ltb-true, lt-ltb, cases_eq}
 use Rattle.std.proofs.lemmas.Bool.Decides.{nat_tests}
 use Rattle.model.specs.declared.pool.Thread.{Thread}
 use Rattle.model.specs.declared.pool.Thread.TheVariants.{A, B}
-use Rattle.model.specs.Below.{some, every}
+use Rattle.model.specs.Below.{some}
 use Rattle.model.specs.Lesser.{lesser_of}
 use Rattle.model.specs.Meaning.{Least}
 use Rattle.model.specs.Pools.{digit, share, holder, moves, others, guarded, leads, pooled}
 use Rattle.model.proofs.Below.{every_decides}
 use Rattle.model.proofs.Digits.{differ_by_one, changed_digit, other_digits, changed_below}
-use Rattle.model.proofs.Least.{least_or, least-same}
+use Rattle.model.proofs.Least.{least_or}
 
 -- the powers of 4 that a pool meets
 pub few : (k : ℕ) → k ≤ 6 → 4 ^ k ≤ 4096

@@ -1,9 +1,8 @@
 -- The check that a model can be walked: what it means and what it answers.
 use Rattle.std.proofs.Common.{◌≡◌, ℕ, zero, suc, ◌<◌, ◌≤◌, Bool, true, false, cond, not, ◌&&◌, eqb, ltb, is_some, Some, None, Ok, Err, Decides, Option, Result, sym, refl, ap, ◌∙◌, subst, ⊎_elim, arith}
 use Rattle.std.proofs.lemmas.Bool.{and_parts, and_from, ltb-true, lt-ltb, eq-eqb, eqb-true, ne_eqb, not-true, not_from_false, both_ways, cases_Bool, cases_lt, cond-true, cond-false}
-use Rattle.std.proofs.lemmas.Bool.Decides.{nat_tests}
 use Rattle.model.specs.Below.{some}
-use Rattle.model.specs.Faults.{Refusal, refusal, answer}
+use Rattle.model.specs.Faults.{refusal, answer}
 use Rattle.model.specs.Meaning.{Meaning, Lawful, Least}
 use Rattle.model.specs.Walkable.{HasStep, Total, Checked, or_else, first, dead_end, refused_at, walkability}
 use Rattle.model.specs.declared.fault.ModelFault.{ModelFault}

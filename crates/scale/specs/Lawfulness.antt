@@ -3,7 +3,7 @@ use Rattle.std.specs.Prelude.{◌≡◌, ℕ, zero, suc, ◌≤◌, Bool, true, 
 use Rattle.std.proofs.Common.{ap, arith}
 use Rattle.std.proofs.lemmas.Bool.{and_parts, leb-true, both_ways}
 use Rattle.scale.specs.Readings.{strength}
-use Rattle.scale.specs.Grades.{Grades, Lawful, reading_at, graded, boolean, five_valued}
+use Rattle.scale.specs.Grades.{Lawful, reading_at, graded, boolean, five_valued}
 use Rattle.scale.specs.declared.reading.Reading.{Reading}
 use Rattle.scale.specs.declared.reading.Reading.TheVariants.{Sometime, InfinitelyOften, EventuallyAlways, Always}
 

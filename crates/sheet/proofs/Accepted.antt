@@ -1,6 +1,6 @@
 -- What a call that was accepted has passed.
-use Rattle.std.proofs.Common.{◌≡◌, ℕ, ◌+◌, ◌*◌, ◌<◌, ◌≤◌, Bool, true, false, cond, not, ◌&&◌, ◌||◌, eqb, ltb, leb, List, length, Ok, Err, Result, sym, refl, ap, ◌∙◌, ⊎_elim, arith}
-use Rattle.std.proofs.lemmas.Bool.{or_parts, not-false, eqb-true, eqb-false, ltb-false, leb-false, eq-eqb, and_cases, cond-true, cond-false, both_ways, ne_eqb}
+use Rattle.std.proofs.Common.{◌≡◌, ℕ, ◌+◌, ◌*◌, ◌<◌, ◌≤◌, Bool, true, false, cond, not, ◌&&◌, ◌||◌, eqb, ltb, leb, length, Ok, Err, Result, sym, refl, ap, ⊎_elim, arith}
+use Rattle.std.proofs.lemmas.Bool.{or_parts, not-false, eqb-true, ltb-false, leb-false, eq-eqb, and_cases, both_ways, ne_eqb}
 use Rattle.model.specs.Faults.{Refusal}
 use Rattle.model.specs.Meaning.{Meaning, Lawful}
 use Rattle.model.specs.Walkable.{Total, walkability}

@@ -1,5 +1,5 @@
 -- A degree lies on the scale.
-use Rattle.std.proofs.Common.{ℕ, zero, suc, ◌≤◌, min, max, Bool, true, false, cond, leb, arith}
+use Rattle.std.proofs.Common.{ℕ, zero, suc, ◌≤◌, Bool, true, false, cond, leb, arith}
 use Rattle.logic.specs.Formulas.{Formula, kind_of, kind_of_binary, unused}
 use Rattle.logic.specs.Formulas.Formula.{prop, unary, binary}
 use Rattle.logic.specs.Kinds.{Kind}

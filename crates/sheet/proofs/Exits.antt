@@ -1,5 +1,5 @@
 -- A chain of checks ends at the first refusal.
-use Rattle.std.proofs.Common.{◌≡◌, ℕ, true, is_err, Ok, Err, Result, sym, ap, ◌∙◌}
+use Rattle.std.proofs.Common.{◌≡◌, ℕ, true, is_err, Ok, Err, Result, ap, ◌∙◌}
 use Rattle.model.specs.Faults.{Refusal}
 use Rattle.std.proofs.lemmas.Bool.{both_ways}
 use Rattle.sheet.specs.Calls.{and_then, leaving}

@@ -1,5 +1,5 @@
 -- What every history keeps: records as they were entered, and bytes that are the degrees of the rows' formulas.
-use Rattle.std.proofs.Common.{◌≡◌, ℕ, zero, suc, ◌+◌, ◌*◌, ◌<◌, ◌≤◌, Bool, true, false, cond, eqb, ltb, ◌⊎◌, List, [], ◌∷◌, ◌++◌, length, get_or, take, set, Ok, sym, refl, ap, ◌∙◌, subst, inl, inr, ⊎_elim, suc-mul, zero-mul, add-one, arith}
+use Rattle.std.proofs.Common.{◌≡◌, ℕ, ◌+◌, ◌*◌, ◌<◌, ◌≤◌, eqb, ltb, ◌⊎◌, List, [], ◌∷◌, ◌++◌, length, take, Ok, sym, refl, ap, ◌∙◌, subst, inl, inr, suc-mul, zero-mul, add-one, arith}
 use Rattle.std.proofs.lemmas.List.{length-append, length-set, get_or_append_left, get_or_push, get_or-set_same, get_or-set_other, take_all}
 use Rattle.std.proofs.lemmas.Bool.{cases_order, cond-true, cond-false, lt-ltb, eq-eqb, ne_eqb}
 use Rattle.logic.specs.Formulas.{Formula}
@@ -8,7 +8,7 @@ use Rattle.model.specs.Meaning.{Meaning, Lawful}
 use Rattle.model.specs.Walkable.{Total, walkability}
 use Rattle.model.proofs.Walked.{walked-total}
 use Rattle.scale.specs.Grades.{Grades, Lawful as Orderly}
-use Rattle.sheet.specs.Calls.{byte_at, given, first_of, second_of, degrees_of, written, with_row, open_answer, cleared}
+use Rattle.sheet.specs.Calls.{byte_at, given, first_of, second_of, degrees_of, with_row}
 use Rattle.sheet.specs.Histories.{History, opened, entered, refused, asked, walked, forgot, formula_at, formula_of, standing}
 use Rattle.sheet.specs.Kinds.{operands_of, kind_of}
 use Rattle.sheet.specs.States.{State}

@@ -1,14 +1,14 @@
 -- The laws over whole histories, from what each call answers.
-use Rattle.std.proofs.Common.{◌≡◌, ℕ, ◌+◌, ◌*◌, ◌<◌, ◌≤◌, Bool, true, false, ◌||◌, ltb, leb, List, length, Ok, Err, Result, sym, refl, ap, ◌∙◌, subst, arith}
+use Rattle.std.proofs.Common.{◌≡◌, ℕ, ◌*◌, ◌<◌, ◌≤◌, Bool, false, ◌||◌, ltb, leb, List, length, Ok, Result, sym, ap, ◌∙◌, subst, arith}
 use Rattle.std.proofs.lemmas.Bool.{or_from, lt-leb, le-ltb}
 use Rattle.logic.specs.Formulas.{Formula}
 use Rattle.logic.specs.Satisfaction.{degree}
 use Rattle.logic.proofs.Values.{degree_is_truth}
 use Rattle.model.specs.Faults.{Refusal, refusal}
-use Rattle.model.specs.Meaning.{Meaning, Lawful}
-use Rattle.scale.specs.Grades.{Grades, Lawful as Orderly}
+use Rattle.model.specs.Meaning.{Meaning}
+use Rattle.scale.specs.Grades.{Grades}
 use Rattle.sheet.specs.Calls.{refuse_if, and_then, byte_at, degree_answer}
-use Rattle.sheet.specs.Histories.{History, formula_at, DegreeIsTrue}
+use Rattle.sheet.specs.Histories.{formula_at, DegreeIsTrue}
 use Rattle.sheet.specs.States.{State}
 use Rattle.sheet.proofs.Bounded.{degree_low}
 use Rattle.sheet.proofs.Kept.{Kept, kept}

@@ -1,5 +1,5 @@
 -- Where a row's bytes stand.
-use Rattle.std.proofs.Common.{ℕ, ◌+◌, ◌*◌, ◌<◌, ◌≤◌, mul-le-mul_right, suc-mul, arith}
+use Rattle.std.proofs.Common.{ℕ, ◌+◌, ◌*◌, ◌<◌, mul-le-mul_right, suc-mul, arith}
 
 -- a state's place in an earlier row lies before the rows that follow
 pub place_below : (r n N k : ℕ) → r < n → k < N → r * N + k < n * N

@@ -1,5 +1,5 @@
 -- Operands that were checked lie on the scale.
-use Rattle.std.proofs.Common.{◌≡◌, ℕ, ◌<◌, ◌≤◌, Bool, true, false, cond, not, ◌&&◌, ◌||◌, eqb, ltb, is_err, Ok, Err, Result, sym, refl, ap, subst, arith}
+use Rattle.std.proofs.Common.{◌≡◌, ℕ, ◌<◌, ◌≤◌, Bool, true, false, cond, not, ◌&&◌, ◌||◌, eqb, is_err, Ok, sym, refl, ap, subst, arith}
 use Rattle.std.proofs.lemmas.Bool.{both_ways, leb-true, lt-ltb}
 use Rattle.logic.specs.Formulas.{unused}
 use Rattle.model.proofs.Below.{every_decides}

@@ -1,8 +1,8 @@
 -- What a recorded row's walk is to do, by the operands' bytes and by the truth values of its formula.
-use Rattle.std.proofs.Common.{◌≡◌, ℕ, suc, ◌-◌, ◌<◌, ◌≤◌, Bool, true, false, cond, ltb, leb, List, Some, Option, sym, refl, ap, ◌∙◌, subst, arith}
+use Rattle.std.proofs.Common.{◌≡◌, ℕ, ◌<◌, ◌≤◌, Bool, true, false, leb, Some, Option, sym, refl, ap, ◌∙◌, subst, arith}
 use Rattle.std.proofs.lemmas.Bool.{both_ways}
 use Rattle.logic.specs.Formulas.{Formula, Truth, unused}
-use Rattle.logic.specs.Kinds.{Kind, reach}
+use Rattle.logic.specs.Kinds.{reach}
 use Rattle.logic.specs.Kinds.Kind.{path}
 use Rattle.logic.specs.Satisfaction.{degree}
 use Rattle.logic.specs.Sets.{Set, ◌∈◌}
@@ -16,7 +16,7 @@ use Rattle.model.specs.Walkable.{Total}
 use Rattle.scale.specs.Grades.{Grades, Lawful as Orderly}
 use Rattle.scale.specs.declared.reading.Reading.{Reading}
 use Rattle.sheet.specs.Histories.{formula_by, AsksWalks, Does}
-use Rattle.sheet.specs.Kinds.{kind_of, operands_of}
+use Rattle.sheet.specs.Kinds.{kind_of}
 use Rattle.sheet.specs.Walking.{Wanted}
 use Rattle.sheet.proofs.Resting.{by_kinds}
 

@@ -1,27 +1,27 @@
 -- The law of walk, from the exact answer of the call.
-use Rattle.std.proofs.Common.{◌≡◌, ℕ, suc, ◌-◌, ◌*◌, ◌<◌, ◌≤◌, Bool, true, false, cond, not, ◌&&◌, ◌||◌, eqb, ltb, leb, List, length, Ok, Err, Result, sym, refl, ap, ◌∙◌, subst, ⊎_elim, arith}
-use Rattle.std.proofs.lemmas.Bool.{or_from, lt-leb, le-ltb, eq-eqb, ne_eqb, eqb-true, cond-true, cond-false, lt-ltb, le-leb, not_from_true, and_right, cases_Bool, eqb-false, both_ways}
+use Rattle.std.proofs.Common.{◌≡◌, ℕ, ◌-◌, ◌*◌, ◌<◌, ◌≤◌, Bool, true, false, cond, not, ◌&&◌, ◌||◌, eqb, ltb, leb, List, length, Ok, Err, Result, sym, refl, ap, ◌∙◌, subst, arith}
+use Rattle.std.proofs.lemmas.Bool.{or_from, lt-leb, le-ltb, eq-eqb, ne_eqb, eqb-true, cond-true, cond-false, lt-ltb, le-leb, not_from_true, and_right, eqb-false, both_ways}
 use Rattle.engine.specs.Lassos.{endless}
 use Rattle.engine.specs.Satisfied.{quantifier}
 use Rattle.logic.specs.Formulas.{Formula}
 use Rattle.logic.specs.Kinds.{Kind, reach}
 use Rattle.logic.specs.Kinds.Kind.{path}
 use Rattle.logic.specs.Satisfaction.{degree}
-use Rattle.logic.specs.Walks.{Walk, Operator, Quantifier}
+use Rattle.logic.specs.Walks.{Walk, Operator}
 use Rattle.logic.proofs.Outcomes.{inside}
-use Rattle.model.specs.Faults.{Refusal, refusal}
+use Rattle.model.specs.Faults.{Refusal}
 use Rattle.model.specs.Meaning.{Meaning, Lawful}
 use Rattle.model.specs.Walkable.{walkability}
 use Rattle.scale.specs.Grades.{Grades, Lawful as Orderly}
 use Rattle.sheet.specs.Calls.{refuse_if, and_then, byte_at, given, first_of, second_of, sound, fitting, readable}
-use Rattle.sheet.specs.Histories.{History, formula_at, formula_of, formula_by, AsksWalks, Does, SomeWalkDoes, TrueWalk, WalkIsTrue}
+use Rattle.sheet.specs.Histories.{formula_at, formula_by, AsksWalks, Does, SomeWalkDoes, TrueWalk, WalkIsTrue}
 use Rattle.sheet.specs.Kinds.{kind_of, operands_of, operator_of}
 use Rattle.sheet.specs.States.{State}
-use Rattle.sheet.specs.Walking.{record_of, present, roomy_now, asks_walks, asking, recorded, operands_now, on_scale, room_to_walk, leveled, walking, Wanted, WantedBy, Granted, Sought, WalksAfter, Walks}
+use Rattle.sheet.specs.Walking.{record_of, present, roomy_now, asking, recorded, operands_now, on_scale, room_to_walk, leveled, walking, Wanted, WantedBy, Granted, Sought, WalksAfter, Walks}
 use Rattle.sheet.specs.declared.row.Row.{Row}
 use Rattle.sheet.proofs.Asked.{path_kind}
 use Rattle.sheet.proofs.Kept.{Kept, kept}
-use Rattle.sheet.proofs.Laws.{fits, byte_low, skips}
+use Rattle.sheet.proofs.Laws.{fits, byte_low}
 use Rattle.sheet.proofs.Resting.{by_kinds}
 use Rattle.sheet.proofs.Showing.{OnPath, left_only, asks_kind, to_does, from-does}
 use Rattle.sheet.proofs.Sound.{all_pass}

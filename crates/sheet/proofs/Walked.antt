@@ -1,7 +1,7 @@
 -- What the engine shows is what the call answers.
-use Rattle.std.proofs.Common.{◌≡◌, ℕ, List, Some, None, Ok, Err, Option, Result, refl, subst}
+use Rattle.std.proofs.Common.{◌≡◌, ℕ, List, Some, None, Ok, Option, Result, subst}
 use Rattle.engine.specs.Shown.{ShownBy}
-use Rattle.logic.specs.Kinds.{Kind, reach}
+use Rattle.logic.specs.Kinds.{reach}
 use Rattle.logic.specs.Kinds.Kind.{path}
 use Rattle.logic.specs.Sets.{Set}
 use Rattle.logic.specs.Walks.{Quantifier, Operator}

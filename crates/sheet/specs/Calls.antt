@@ -1,5 +1,5 @@
 -- What each call of the sheet answers, and what it leaves.
-use Rattle.std.specs.Prelude.{◌≡◌, ℕ, zero, suc, ◌+◌, ◌*◌, Bool, cond, not, ◌&&◌, ◌||◌, leb, List, length, Ok, Err, Result, ◌==◌, nat_le, nat_lt, slice_index, slice_set}
+use Rattle.std.specs.Prelude.{ℕ, zero, suc, ◌+◌, ◌*◌, Bool, cond, not, ◌&&◌, ◌||◌, leb, List, length, Ok, Err, Result, ◌==◌, nat_le, nat_lt, slice_index, slice_set}
 use Rattle.model.specs.Below.{every}
 use Rattle.model.specs.Faults.{Refusal, refusal}
 use Rattle.model.specs.Meaning.{Meaning}

@@ -1,5 +1,5 @@
 -- What each fault of the sheet tells: its number, and the value that it names, else 0.
-use Rattle.std.specs.Prelude.{ℕ, Ok, Err, Result}
+use Rattle.std.specs.Prelude.{Ok, Err, Result}
 use Rattle.model.specs.Faults.{Refusal, refusal, told as toldOfModel}
 use Rattle.sheet.specs.declared.fault.SheetFault.{SheetFault}
 use Rattle.sheet.specs.declared.fault.SheetFault.TheVariants.{Model, Differs, Short, Kind, Prop, Operand, NoRow, Byte, Level, NoPath, WalkShort, NoWalk}

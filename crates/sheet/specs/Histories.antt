@@ -6,7 +6,7 @@ use Rattle.logic.specs.Formulas.Unary.{X, F, G}
 use Rattle.logic.specs.Formulas.Binary.{U, W}
 use Rattle.logic.specs.Kinds.{Kind, reach}
 use Rattle.logic.specs.Kinds.Kind.{prop, or, and, neg, imp, path}
-use Rattle.logic.specs.Walks.{Walk, Operator}
+use Rattle.logic.specs.Walks.{Walk}
 use Rattle.logic.specs.Walks.Operator.{next, finally, globally, until, weak}
 use Rattle.model.specs.Faults.{Refusal, refusal}
 use Rattle.model.specs.Meaning.{Meaning, Lawful}

@@ -1,9 +1,8 @@
 -- What each line of a text gives.
-use Rattle.std.specs.Prelude.{ℕ, zero, suc, ◌+◌, ◌-◌, Bool, true, false, cond, ◌&&◌, ◌||◌, List, [], ◌∷◌, ◌++◌, length, Ok, Err, codes, Result, ◌==◌, nat_le}
+use Rattle.std.specs.Prelude.{ℕ, zero, suc, ◌+◌, ◌-◌, Bool, false, cond, ◌||◌, List, [], ◌∷◌, ◌++◌, length, Ok, Err, codes, ◌==◌, nat_le}
 use Rattle.model.specs.declared.table.Step.{Step}
 use Rattle.model.specs.declared.table.Holding.{Holding}
 use Rattle.sheet.specs.declared.row.Row.{Row}
-use Rattle.text.specs.declared.fault.ReadFault.{ReadFault}
 use Rattle.text.specs.declared.fault.ReadFault.TheVariants.{Many}
 use Rattle.text.specs.declared.script.Ask.{Ask}
 use Rattle.text.specs.declared.script.Source.{Source}

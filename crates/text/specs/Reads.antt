@@ -1,7 +1,7 @@
 -- What each part of a line gives, read from the bytes that are left of the text.
-use Rattle.std.specs.Prelude.{ℕ, zero, suc, ◌+◌, ◌-◌, ◌*◌, Bool, cond, ◌&&◌, ◌||◌, List, [], ◌∷◌, length, Some, None, Ok, Err, Option, Result, ◌==◌, nat_le, nat_lt}
+use Rattle.std.specs.Prelude.{ℕ, zero, suc, ◌+◌, ◌-◌, ◌*◌, Bool, cond, ◌&&◌, List, [], ◌∷◌, length, Some, None, Ok, Err, Option, Result, ◌==◌, nat_le, nat_lt}
 use Rattle.text.specs.declared.fault.ReadFault.{ReadFault}
-use Rattle.text.specs.declared.fault.ReadFault.TheVariants.{Form, Range, Many}
+use Rattle.text.specs.declared.fault.ReadFault.TheVariants.{Form, Range}
 
 -- what is taken, or nothing at the first byte that does not fit; and the bytes then left
 abbrev pub Part : Type 0 → Type 0

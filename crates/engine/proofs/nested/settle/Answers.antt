@@ -1,4 +1,4 @@
-use Rattle.std.proofs.Common.{true, false, add-one, arith}
+use Rattle.std.proofs.Common.{true, false, add-one}
 use Rattle.engine.specs.Marks.{before}
 use Rattle.engine.specs.Rounded.{settled}
 use Rattle.engine.proofs.Growing.{everywhere}

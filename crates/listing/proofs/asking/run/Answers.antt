@@ -1,4 +1,4 @@
-use Rattle.std.proofs.Common.{◌+◌, List, [], length, replicate, Result, ap, ◌∙◌}
+use Rattle.std.proofs.Common.{◌+◌, [], length, replicate, Result, ap, ◌∙◌}
 use Rattle.sheet.specs.States.{State, seen}
 use Rattle.text.specs.Formulas.{row_for}
 use Rattle.text.specs.Kept.{items_of}

@@ -1,7 +1,7 @@
-use Rattle.std.proofs.Common.{ℕ, List, [], ◌∷◌, ◌++◌, length, codes, decimal, ap, ◌∙◌, arith}
+use Rattle.std.proofs.Common.{ℕ, List, ◌++◌, length, codes, decimal, ap, ◌∙◌, arith}
 use Rattle.scale.specs.Digits.{written}
 use Rattle.text.specs.Kept.{items_of}
-use Rattle.listing.specs.Writing.{text_of, spaced, end, degree_line}
+use Rattle.listing.specs.Writing.{text_of, spaced, end}
 use Rattle.std.proofs.lemmas.Fmt.{length-decimal-le}
 use Rattle.listing.proofs.Puts.{both, digits_short}
 use Rattle.listing.proofs.writing.degree_line.Goals as goal

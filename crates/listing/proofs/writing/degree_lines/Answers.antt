@@ -1,4 +1,4 @@
-use Rattle.std.proofs.Common.{ℕ, List, ◌++◌, length, get_or, ap, ◌∙◌, arith}
+use Rattle.std.proofs.Common.{List, ◌++◌, length, get_or, ap, ◌∙◌, arith}
 use Rattle.text.specs.Kept.{items_of}
 use Rattle.listing.specs.declared.answers.Answer.{Answer}
 use Rattle.listing.specs.Writing.{degree_line}

@@ -1,6 +1,6 @@
-use Rattle.std.proofs.Common.{◌≡◌, ℕ, List, [], ◌++◌, length, codes, decimal, ap, ◌∙◌, arith}
+use Rattle.std.proofs.Common.{ℕ, List, ◌++◌, length, codes, decimal, ap, ◌∙◌, arith}
 use Rattle.text.specs.Kept.{items_of}
-use Rattle.listing.specs.Faults.{told, who}
+use Rattle.listing.specs.Faults.{who}
 use Rattle.listing.specs.Writing.{spaced, end}
 use Rattle.listing.proofs.Puts.{both, figures, who_short}
 use Rattle.listing.proofs.writing.fault_line.Goals as goal

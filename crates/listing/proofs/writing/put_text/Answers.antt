@@ -1,4 +1,4 @@
-use Rattle.std.proofs.Common.{ℕ, List, [], ◌∷◌, ◌++◌, ap, ◌∙◌, arith}
+use Rattle.std.proofs.Common.{ℕ, List, [], ◌∷◌, ◌++◌, ap, ◌∙◌}
 use Rattle.text.specs.Kept.{items_of}
 use Rattle.listing.specs.Writing.{spaced}
 use Rattle.listing.proofs.Puts.{appended, both}

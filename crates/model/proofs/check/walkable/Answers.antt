@@ -1,6 +1,6 @@
-use Rattle.std.proofs.Common.{◌≡◌, ℕ, ◌<◌, true, false, is_some, Ok, Err, arith, rules, below_more}
-use Rattle.model.specs.Walkable.{HasStep, Checked}
-use Rattle.model.specs.declared.fault.ModelFault.TheVariants.{NoStates, DeadEnd}
+use Rattle.std.proofs.Common.{◌≡◌, true, false, is_some, Ok, Err, arith, rules, below_more}
+use Rattle.model.specs.Walkable.{Checked}
+use Rattle.model.specs.declared.fault.ModelFault.TheVariants.{DeadEnd}
 use Rattle.model.proofs.Walked.{found-step, no_step, exact}
 use Rattle.model.proofs.check.walkable.Goals as goal
 use Rattle.model.proofs.check.walkable.Goals.{then-s-n-via-then-s-n, then-s-n-via-else-s-n+then-is_none}

@@ -1,4 +1,4 @@
-use Rattle.std.proofs.Common.{◌+◌, ◌*◌, ◌≤◌, Some, None, arith, rules}
+use Rattle.std.proofs.Common.{◌+◌, ◌*◌, ◌≤◌, Some, None, arith}
 use lib.Arith.{digits_lt}
 use Rattle.model.proofs.Paired.{least_quotient}
 use Rattle.model.proofs.pair.first_steps.Goals as goal

@@ -1,9 +1,9 @@
-use Rattle.std.proofs.Common.{ℕ, true, false, sym, refl, ap, subst}
+use Rattle.std.proofs.Common.{true, false, sym, refl, subst}
 use Rattle.scale.specs.declared.reading.Reading.{Reading}
 use Rattle.logic.specs.Searches.{break_weak}
 use Rattle.engine.specs.Marks.{members}
 use Rattle.engine.specs.Shown.{Carries}
-use Rattle.engine.proofs.Choosing.{holds_all, holds-none}
+use Rattle.engine.proofs.Choosing.{holds-none}
 use Rattle.engine.proofs.tasks.choosing.break_weak.Goals as goal
 
 pub returns-in-Sometime : goal.returns-in-Sometime

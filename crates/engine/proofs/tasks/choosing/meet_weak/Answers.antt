@@ -1,4 +1,4 @@
-use Rattle.std.proofs.Common.{ℕ, true, false, sym, refl, ap, subst}
+use Rattle.std.proofs.Common.{true, false, sym, refl, subst}
 use Rattle.scale.specs.declared.reading.Reading.{Reading}
 use Rattle.logic.specs.Searches.{meet_weak}
 use Rattle.engine.specs.Marks.{members}

@@ -1,6 +1,6 @@
-use Rattle.std.proofs.Common.{◌≡◌, ℕ, ◌+◌, ◌*◌, ◌/◌, ◌%◌, ◌<◌, ◌≤◌, Bool, ◌&&◌, eqb, sym, subst, arith, rules}
-use Rattle.model.specs.Meaning.{Meaning, Lawful, Least}
-use Rattle.model.specs.Pairs.{paired, first_steps, second_steps}
+use Rattle.std.proofs.Common.{◌≡◌, ◌+◌, ◌*◌, ◌/◌, ◌%◌, ◌<◌, ◌≤◌, ◌&&◌, eqb, sym, subst, arith, rules}
+use Rattle.model.specs.Meaning.{Least}
+use Rattle.model.specs.Pairs.{paired}
 use Rattle.model.proofs.Paired.{row_fits, whole, wide, paired-least}
 use Rattle.model.proofs.pair.PairFiniteModel.least_step.Goals as goal
 

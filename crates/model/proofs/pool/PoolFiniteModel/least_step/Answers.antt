@@ -1,4 +1,4 @@
-use Rattle.std.proofs.Common.{◌≡◌, ℕ, ◌^◌, ◌<◌, ◌&&◌, ◌||◌, ltb, sym, refl, ap, ◌∙◌, subst, arith}
+use Rattle.std.proofs.Common.{◌≡◌, ◌^◌, ◌<◌, ◌&&◌, ◌||◌, ltb, sym, refl, ap, ◌∙◌, subst, arith}
 use Rattle.model.specs.Below.{some}
 use Rattle.model.specs.Lesser.{lesser_of}
 use Rattle.model.specs.Meaning.{Least}

@@ -1,5 +1,4 @@
 use Rattle.std.proofs.Common.{rules}
-use Rattle.model.specs.declared.table.Holding.{Holding}
 use Rattle.std.proofs.lemmas.List.{take_all}
 use Rattle.model.proofs.Any.{any_at, any_none}
 use Rattle.model.proofs.table.TableFiniteModel.holds.Goals as goal

@@ -1,5 +1,5 @@
 use Rattle.std.proofs.lemmas.Result.{err_from_is_err_and}
-use Rattle.std.proofs.Common.{◌≡◌, ◌<◌, ◌≤◌, sym, refl, ap, ◌∙◌, subst}
+use Rattle.std.proofs.Common.{◌<◌, ◌≤◌, sym, refl, ap, ◌∙◌, subst}
 use Rattle.sheet.specs.Calls.{first_of, second_of}
 use Rattle.sheet.specs.Faults.{answer}
 use Rattle.sheet.specs.States.{seen}

@@ -1,4 +1,4 @@
-use Rattle.std.proofs.Common.{◌≡◌, refl}
+use Rattle.std.proofs.Common.{refl}
 use Rattle.std.proofs.lemmas.Result.{err_from_is_err_and}
 use Rattle.sheet.proofs.Exits.{stops, goes, never_ok}
 use Rattle.sheet.proofs.sheet.Sheet.check_walk.Goals as goal

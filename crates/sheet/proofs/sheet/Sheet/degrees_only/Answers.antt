@@ -1,4 +1,4 @@
-use Rattle.std.proofs.Common.{ℕ, ◌+◌, ◌*◌, Bool, leb, get_or, arith}
+use Rattle.std.proofs.Common.{◌+◌, ◌*◌, leb, get_or, arith}
 use Rattle.std.proofs.lemmas.Bool.{lt-leb}
 use Rattle.sheet.proofs.Places.{place_below}
 use Rattle.sheet.proofs.Sound.{one_fails, all_pass}

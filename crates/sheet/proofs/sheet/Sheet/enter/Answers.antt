@@ -3,7 +3,7 @@ use Rattle.logic.proofs.Rows.{reaches_where_sat}
 use Rattle.logic.specs.Sets.{◌∈◌}
 use Rattle.sheet.specs.Kinds.{kind_of}
 use Rattle.sheet.specs.Calls.{with_row, degrees_of, reaches, first_of, second_of, written}
-use Rattle.sheet.specs.States.{State, seen}
+use Rattle.sheet.specs.States.{seen}
 use Rattle.sheet.proofs.Exits.{goes, accepted, ok_same}
 use Rattle.sheet.proofs.Writes.{same-written, read_back}
 use Rattle.sheet.proofs.sheet.Sheet.enter.Goals as goal

@@ -1,4 +1,4 @@
-use Rattle.std.proofs.Common.{◌≡◌, ◌<◌, arith, rules}
+use Rattle.std.proofs.Common.{◌<◌, arith, rules}
 use Rattle.sheet.proofs.Places.{place_below}
 use Rattle.sheet.proofs.sheet.Sheet.first_at.Goals as goal
 

@@ -1,4 +1,4 @@
-use Rattle.std.proofs.Common.{◌≡◌, length, drop}
+use Rattle.std.proofs.Common.{◌≡◌, drop}
 use Rattle.text.specs.Reads.{word_at}
 use Rattle.text.proofs.reader.Reader.word.Given as goal
 

@@ -12,7 +12,8 @@ import os
 import re
 import sys
 
-DECLARED = re.compile(r"^(\s*)((?:(?:pub|abbrev|unfoldable|record|data) )*)([^\s(){}\[\]:;,|=λ.]+)((?: [({].*?)?) :(?: |$)(.*)")
+DECLARED = re.compile(r"^(\s*)((?:(?:pub|abbrev|unfoldable|record|data) )*)((?:[^\s(){}\[\]:;,|=λ.]+ )+?)((?:[({].*?)? ?):(?: |$)(.*)")
+ALIAS = re.compile(r"(?<=[{ ])as ([a-z]\w*[A-Z]\w*)")
 TOKEN = re.compile(r"[^\s(){}\[\];,.:\"`|]+")
 SHELF = {"length", "take", "drop", "get_or", "map", "min", "max", "cond", "not", "eqb", "ltb", "leb", "set", "suc", "paste"}
 
@@ -37,14 +38,18 @@ def declared():
         if path.endswith("Lib.antt"):
             continue
         for line in read(path).split("\n"):
+            if line.startswith("use "):
+                for name in ALIAS.findall(line):
+                    found.setdefault(name, set()).add(path)
             m = DECLARED.match(line)
-            if not m or m.group(3).startswith("--") or "let " in line[: m.start(3)]:
+            if not m or m.group(3).startswith(("--", "let ")):
                 continue
-            name, of = m.group(3), m.group(5).strip()
+            names, of = m.group(3).split(), m.group(5).strip()
             if of.startswith("goal.") or of.startswith("goal "):
-                made.add(name)
+                made.update(names)
                 continue
-            found.setdefault(name, set()).add(path)
+            for name in names:
+                found.setdefault(name, set()).add(path)
     return found, made
 
 

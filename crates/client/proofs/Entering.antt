@@ -3,7 +3,7 @@ use Rattle.std.proofs.Common.{◌≡◌, ℕ, ◌*◌, ◌<◌, ◌≤◌, List,
 use Rattle.logic.specs.Formulas.{Formula, Truth}
 use Rattle.logic.specs.Formulas.Formula.{prop, unary}
 use Rattle.logic.specs.Formulas.Unary.{neg, G}
-use Rattle.logic.specs.Walks.Quantifier.{everyWalk}
+use Rattle.logic.specs.Walks.Quantifier.{every_walk}
 use Rattle.model.specs.Faults.{Refusal}
 use Rattle.model.specs.Meaning.{Meaning, Lawful}
 use Rattle.scale.specs.Grades.{Grades, Lawful as Orderly}
@@ -44,7 +44,7 @@ module _ (m : Meaning) (law : Lawful m) (g : Grades) (orderly : Orderly g) where
       let e2 : b ≡ 1 = numbered (row 4 a) b h1 a2 in
       let h2 : History m g s2 (f1 ∷ f2 ∷ []) = subst (History m g s2) (λ i. standing (f1 ∷ []) (e2 i) (unary neg (formula_at (f1 ∷ []) (e1 i)))) (entered (row 4 a) b h1 a2 l2) in
       let e3 : c ≡ 2 = numbered (row 13 b) c h2 a3 in
-      let h3 : History m g s3 (f1 ∷ f2 ∷ never_holds p ∷ []) = subst (History m g s3) (λ i. standing (f1 ∷ f2 ∷ []) (e3 i) (unary (G everyWalk) (formula_at (f1 ∷ f2 ∷ []) (e2 i)))) (entered (row 13 b) c h2 a3 l3) in
+      let h3 : History m g s3 (f1 ∷ f2 ∷ never_holds p ∷ []) = subst (History m g s3) (λ i. standing (f1 ∷ f2 ∷ []) (e3 i) (unary (G every_walk) (formula_at (f1 ∷ f2 ∷ []) (e2 i)))) (entered (row 13 b) c h2 a3 l3) in
       record { formulas = f1 ∷ f2 ∷ never_holds p ∷ []; history = h3; there = omega arith; is = ap (formula_at (f1 ∷ f2 ∷ never_holds p ∷ [])) e3 }
 
 -- what the laws say of that row

@@ -3,7 +3,7 @@ use Rattle.std.specs.Prelude.{◌≡◌, ℕ, ◌*◌, ◌<◌, ◌≤◌, List,
 use Rattle.logic.specs.Formulas.{Formula, Truth}
 use Rattle.logic.specs.Formulas.Formula.{prop, unary}
 use Rattle.logic.specs.Formulas.Unary.{neg, G}
-use Rattle.logic.specs.Walks.Quantifier.{everyWalk}
+use Rattle.logic.specs.Walks.Quantifier.{every_walk}
 use Rattle.model.specs.Meaning.{Meaning}
 use Rattle.scale.specs.Grades.{Grades}
 use Rattle.sheet.specs.Histories.{Does, SomeWalkDoes}
@@ -12,7 +12,7 @@ use Rattle.client.specs.declared.Verdict.{Verdict}
 
 -- on every walk, proposition p never holds
 abbrev pub never_holds : ℕ → Formula
-never_holds p = unary (G everyWalk) (unary neg (prop p))
+never_holds p = unary (G every_walk) (unary neg (prop p))
 
 -- a walk that breaks the level is written, or there is none
 abbrev pub Broken : Meaning → Grades → ℕ → ℕ → ℕ → List ℕ → List ℕ → Option (ℕ × ℕ) → Type 0

@@ -2,7 +2,7 @@
 use Rattle.std.specs.Prelude.{Bool, true, false}
 use Rattle.logic.specs.Walks.{Quantifier, Operator as Asked}
 use Rattle.logic.specs.Walks.Operator.{next, finally, globally, until, weak}
-use Rattle.logic.specs.Walks.Quantifier.{someWalk, everyWalk}
+use Rattle.logic.specs.Walks.Quantifier.{some_walk, every_walk}
 use Rattle.engine.specs.declared.operator.Operator.{Operator}
 use Rattle.engine.specs.declared.operator.Operator.TheVariants.{Next, Finally, Globally, Until, Weak}
 
@@ -15,5 +15,5 @@ asked Weak = weak
 
 -- E, or else A
 abbrev pub quantifier : Bool → Quantifier
-quantifier true = someWalk
-quantifier false = everyWalk
+quantifier true = some_walk
+quantifier false = every_walk

@@ -5,7 +5,7 @@ use Rattle.logic.specs.Formulas.{Unary, Binary}
 use Rattle.logic.specs.Formulas.Unary.{neg, X, F, G}
 use Rattle.logic.specs.Formulas.Binary.{or, and, imp, U, W}
 use Rattle.logic.specs.Walks.{Quantifier}
-use Rattle.logic.specs.Walks.Quantifier.{someWalk, everyWalk}
+use Rattle.logic.specs.Walks.Quantifier.{some_walk, every_walk}
 use Rattle.sheet.specs.Kinds.{operands_of, name_of}
 use Rattle.text.specs.declared.fault.ReadFault.TheVariants.{Form}
 use Rattle.text.specs.Reads.{Got, and_then, need, choose, word_at}
@@ -77,8 +77,8 @@ law_capital c k q nx nf ng nu nw =
 
 law_name : Law name_at Name
 law_name =
-    law_choose 69 (law_capital 69 6 someWalk (refl, refl) (refl, refl) (refl, refl) (refl, refl) (refl, refl))
-    (law_choose 65 (law_capital 65 11 everyWalk (refl, refl) (refl, refl) (refl, refl) (refl, refl) (refl, refl))
+    law_choose 69 (law_capital 69 6 some_walk (refl, refl) (refl, refl) (refl, refl) (refl, refl) (refl, refl))
+    (law_choose 65 (law_capital 65 11 every_walk (refl, refl) (refl, refl) (refl, refl) (refl, refl) (refl, refl))
     (law_choose 111 (law_spell (name_of 2) 2 (λ b. (two or, refl, refl)))
     (law_choose 97 (law_spell (name_of 3) 3 (λ b. (two and, refl, refl)))
     (law_choose 110 (law_spell (name_of 4) 4 (λ b. (one neg, refl, refl)))
@@ -103,19 +103,19 @@ Known h = ((left : List ℕ) → name_at (name_of (number h) ++ left) ≡ Ok (nu
 pub known : (h : Head) → Known h
 known atom = (λ left. refl, refl, refl)
 known (one neg) = (λ left. refl, refl, refl)
-known (one (X someWalk)) = (λ left. refl, refl, refl)
-known (one (X everyWalk)) = (λ left. refl, refl, refl)
-known (one (F someWalk)) = (λ left. refl, refl, refl)
-known (one (F everyWalk)) = (λ left. refl, refl, refl)
-known (one (G someWalk)) = (λ left. refl, refl, refl)
-known (one (G everyWalk)) = (λ left. refl, refl, refl)
+known (one (X some_walk)) = (λ left. refl, refl, refl)
+known (one (X every_walk)) = (λ left. refl, refl, refl)
+known (one (F some_walk)) = (λ left. refl, refl, refl)
+known (one (F every_walk)) = (λ left. refl, refl, refl)
+known (one (G some_walk)) = (λ left. refl, refl, refl)
+known (one (G every_walk)) = (λ left. refl, refl, refl)
 known (two or) = (λ left. refl, refl, refl)
 known (two and) = (λ left. refl, refl, refl)
 known (two imp) = (λ left. refl, refl, refl)
-known (two (U someWalk)) = (λ left. refl, refl, refl)
-known (two (U everyWalk)) = (λ left. refl, refl, refl)
-known (two (W someWalk)) = (λ left. refl, refl, refl)
-known (two (W everyWalk)) = (λ left. refl, refl, refl)
+known (two (U some_walk)) = (λ left. refl, refl, refl)
+known (two (U every_walk)) = (λ left. refl, refl, refl)
+known (two (W some_walk)) = (λ left. refl, refl, refl)
+known (two (W every_walk)) = (λ left. refl, refl, refl)
 
 pub name_reads : Reads name_at Name Any Any
 name_reads =

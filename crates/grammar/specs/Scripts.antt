@@ -5,7 +5,7 @@ use Rattle.logic.specs.Formulas.Formula.{prop, unary, binary}
 use Rattle.logic.specs.Formulas.Unary.{neg, X, F, G}
 use Rattle.logic.specs.Formulas.Binary.{or, and, imp, U, W}
 use Rattle.logic.specs.Walks.{Quantifier}
-use Rattle.logic.specs.Walks.Quantifier.{someWalk, everyWalk}
+use Rattle.logic.specs.Walks.Quantifier.{some_walk, every_walk}
 use Rattle.model.specs.declared.table.Step.{Step}
 use Rattle.model.specs.declared.table.Holding.{Holding}
 use Rattle.sheet.specs.declared.row.Row.{Row}
@@ -32,8 +32,8 @@ pub record Script : Type 0 where
 
 -- the number of each kind
 abbrev pub under : Quantifier → ℕ → ℕ → ℕ
-under someWalk e a = e
-under everyWalk e a = a
+under some_walk e a = e
+under every_walk e a = a
 
 abbrev pub number_of : Unary → ℕ
 number_of neg = 4

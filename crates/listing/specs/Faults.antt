@@ -1,7 +1,7 @@
 -- What each refusal of the listing call tells: its number, its place, and the value that it names, else 0.
 use Rattle.std.specs.Prelude.{ℕ, cond, List, Ok, Err, codes, Result, nat_le}
 use Rattle.model.specs.Faults.{Refusal}
-use Rattle.sheet.specs.Faults.{told as toldOfSheet}
+use Rattle.sheet.specs.Faults.{told as told_of_sheet}
 use Rattle.text.specs.declared.fault.ReadFault.{ReadFault}
 use Rattle.text.specs.declared.fault.ReadFault.TheVariants as read
 use Rattle.listing.specs.declared.fault.TextFault.{TextFault}
@@ -27,7 +27,7 @@ told Long = telling 14 1 1 0
 told (Form p) = telling 15 p.line p.column 0
 told (Range p) = telling 16 p.line p.column 0
 told (Many p) = telling 17 p.line p.column 0
-told (Sheet line e) = at_line line (toldOfSheet e)
+told (Sheet line e) = at_line line (told_of_sheet e)
 
 -- an answer, with what its fault tells
 abbrev pub answer : {X : Type 0} → Result X TextFault → Result X Telling

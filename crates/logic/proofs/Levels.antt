@@ -15,14 +15,14 @@ use Rattle.logic.specs.Sets.{Set, ◌∈◌, Within}
 use Rattle.logic.specs.Theorems.{SetsAreWalks, BrokenBySomeWalk, LevelsShrink}
 use Rattle.logic.specs.Walks.{Operator, Often, Seen, Meets, Quantifier, Quantified}
 use Rattle.logic.specs.Walks.Operator.{next, finally, globally, until, weak}
-use Rattle.logic.specs.Walks.Quantifier.{someWalk, everyWalk}
+use Rattle.logic.specs.Walks.Quantifier.{some_walk, every_walk}
 use Rattle.logic.proofs.Meeting.{often_map}
 use Rattle.logic.proofs.Outcomes.{other, quantified_map}
 use Rattle.logic.proofs.Paths.{path_yes, path_no}
 
 clash : (q : Quantifier) (m : Meaning) (s : ℕ) (P : (ℕ → ℕ) → Type 0) → Quantified q m s P → Quantified (other q) m s (λ π. ¬ P π) → ⊥
-clash someWalk m s P (π, w, p) h = h π w (λ not-p. not-p p)
-clash everyWalk m s P h (π, w, not-p) = h π w not-p
+clash some_walk m s P (π, w, p) h = h π w (λ not-p. not-p p)
+clash every_walk m s P h (π, w, not-p) = h π w not-p
 
 pub sets_are_walks : SetsAreWalks
 sets_are_walks m law total q op r left right s here = (
@@ -32,7 +32,7 @@ sets_are_walks m law total q op r left right s here = (
 )
 
 pub broken_by_some_walk : BrokenBySomeWalk
-broken_by_some_walk m law total op r left right s here h = path_no m law total s here everyWalk r left right op h
+broken_by_some_walk m law total op r left right s here h = path_no m law total s here every_walk r left right op h
 
 -- what is met by a reading is met by a weaker one
 weaken : (q r : Reading) (P : ℕ → Type 0) → strength q ≤ strength r → Often (Some r) P → Often (Some q) P

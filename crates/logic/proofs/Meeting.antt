@@ -7,7 +7,7 @@ use Rattle.logic.specs.Searches.{Task, task, neither, meet_weak, break_weak, mee
 use Rattle.logic.specs.Sets.{Set, ◌∈◌, empty, full, union, complement}
 use Rattle.logic.specs.Walks.{Operator, Often, Seen, Meets, Quantifier}
 use Rattle.logic.specs.Walks.Operator.{next, finally, globally, until, weak}
-use Rattle.logic.specs.Walks.Quantifier.{someWalk, everyWalk}
+use Rattle.logic.specs.Walks.Quantifier.{some_walk, every_walk}
 use Rattle.logic.proofs.Measures.{Good, Keeps, Recurs, Settles}
 use Rattle.logic.proofs.Search.{first, split, at_last}
 
@@ -128,5 +128,5 @@ module _ (r : Reading) (left right : Set) (π : ℕ → ℕ) where
   breaks weak d o = weak_breaks left right π r d o
 
   pub shows : (q : Quantifier) (op : Operator) → Done op (task_of q op r left right) π → Shows q op r left right π
-  shows someWalk op d = meets op d
-  shows everyWalk op d = breaks op d
+  shows some_walk op d = meets op d
+  shows every_walk op d = breaks op d

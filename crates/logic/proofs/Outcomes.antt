@@ -6,24 +6,24 @@ use Rattle.model.specs.Walkable.{Total}
 use Rattle.logic.specs.FixedPoints.{choosing}
 use Rattle.logic.specs.Sets.{Set, ◌∈◌, empty, full, complement}
 use Rattle.logic.specs.Walks.{Walk, Quantifier, Quantified}
-use Rattle.logic.specs.Walks.Quantifier.{someWalk, everyWalk}
+use Rattle.logic.specs.Walks.Quantifier.{some_walk, every_walk}
 use Rattle.logic.proofs.Guided.{guided, guided_walk, guided_least, guided_round}
 use Rattle.logic.proofs.Joining.{Rule, Guides, reach_in, keep_in, reach-guides, keep-guides}
 use Rattle.logic.proofs.Measures.{Steady, Keeps, Recurs, Settles, Follows, keeps, recurs, settles, settles_by}
 
 -- E for A and A for E
 abbrev pub other : Quantifier → Quantifier
-other someWalk = everyWalk
-other everyWalk = someWalk
+other some_walk = every_walk
+other every_walk = some_walk
 
 -- the other quantifier chooses where this one does not
 pub choosing_other : (q : Quantifier) → complement (choosing q) ≡ choosing (other q)
-choosing_other someWalk = refl
-choosing_other everyWalk = refl
+choosing_other some_walk = refl
+choosing_other every_walk = refl
 
 pub quantified_map : (q : Quantifier) (m : Meaning) (s : ℕ) (P Q : (ℕ → ℕ) → Type 0) → ((π : ℕ → ℕ) → Walk m s π → P π → Q π) → Quantified q m s P → Quantified q m s Q
-quantified_map someWalk m s P Q f (π, w, p) = (π, w, f π w p)
-quantified_map everyWalk m s P Q f h = λ π w k. h π w (λ p. k (f π w p))
+quantified_map some_walk m s P Q f (π, w, p) = (π, w, f π w p)
+quantified_map every_walk m s P Q f h = λ π w k. h π w (λ p. k (f π w p))
 
 pub inside : (m : Meaning) → Lawful m → (s : ℕ) (π : ℕ → ℕ) → Walk m s π → (i : ℕ) → π i < m.states
 inside m law s π w i = law.steps_from (π i) (π (suc i)) (w.along i)
@@ -60,17 +60,17 @@ module _ (m : Meaning) (law : Lawful m) (total : Total m) (A B C : Set) (s : ℕ
   follow μ j o t q h = guided_least m law total μ s here j t q h
 
   plays : (q : Quantifier) (μ : ℕ → ℕ) → Guides m (choosing q) A B C μ s → Quantified q m s (λ π. Keeps A B C π × Recurs A C π)
-  plays someWalk μ w =
+  plays some_walk μ w =
       let π = guided m law total μ s in let walk = guided_walk m law total μ s here in
       (π, walk, does_recur m law full A B C μ s w π walk (follow μ))
-  plays everyWalk μ w = λ π walk k. k (does_recur m law empty A B C μ s w π walk (none-ours μ π))
+  plays every_walk μ w = λ π walk k. k (does_recur m law empty A B C μ s w π walk (none-ours μ π))
 
   plays_steady : (q : Quantifier) (μ : ℕ → ℕ) (w : Guides m (choosing q) A B C μ s) → Steady w.guide → Quantified q m s (λ π. Keeps A B C π × Settles A C π)
-  plays_steady someWalk μ w steady =
+  plays_steady some_walk μ w steady =
       let π = guided m law total μ s in let walk = guided_walk m law total μ s here in
       let (p, d, round) = guided_round m law total μ s here in
       (π, walk, does_settle_by m law full A B C μ s w π walk (follow μ) steady p d round)
-  plays_steady everyWalk μ w steady = λ π walk. does_settle m law empty A B C μ s w π walk (none-ours μ π) steady
+  plays_steady every_walk μ w steady = λ π walk. does_settle m law empty A B C μ s w π walk (none-ours μ π) steady
 
   module _ (q : Quantifier) (op : Set → Set → Set) (rule : Rule m (choosing q) A B C op) where
     pub in_reach : s ∈ reach_in m.states op → Quantified q m s (λ π. Keeps A B C π × Recurs A C π)

@@ -10,7 +10,7 @@ use Rattle.logic.specs.Searches.{Task, task, meet_task, break_task}
 use Rattle.logic.specs.Sets.{Set, ◌∈◌, empty, full}
 use Rattle.logic.specs.Walks.{Walk, Operator, Meets, Quantifier, Quantified}
 use Rattle.logic.specs.Walks.Operator.{next, finally, globally, until, weak}
-use Rattle.logic.specs.Walks.Quantifier.{someWalk, everyWalk}
+use Rattle.logic.specs.Walks.Quantifier.{some_walk, every_walk}
 use Rattle.logic.proofs.Guided.{guided, guided_walk}
 use Rattle.logic.proofs.Meeting.{Does, Done, nowhere, meets, breaks}
 use Rattle.logic.proofs.Outcomes.{other, choosing_other, quantified_map, inside, in_reach, in_keep}
@@ -36,13 +36,13 @@ before-second s t π e = e
 
 module _ (m : Meaning) (law : Lawful m) (total : Total m) (s : ℕ) (here : s < m.states) where
   next_yes : (q : Quantifier) (T : Set) → s ∈ pre m (choosing q) T → Quantified q m s (λ π. π 1 ∈ T)
-  next_yes someWalk T h =
+  next_yes some_walk T h =
       ⊎_elim
       (λ (o, t, l, k, e).
       let w = guided_walk m law total (λ u. 0) t l in let π = guided m law total (λ u. 0) t in
       (before s π, before-walk m s t π k w, subst (λ u. u ∈ T) (sym (before-second s t π w.start)) e))
       (λ (o, f). nowhere s (sym o)) (pre_parts m full T s h)
-  next_yes everyWalk T h = λ π w k.
+  next_yes every_walk T h = λ π w k.
       ⊎_elim (λ x. nowhere s x.0)
       (λ (o, f). k (f (π 1) (inside m law s π w 1) (subst (λ u. m.step u (π 1) ≡ true) w.start (w.along 0)))) (pre_parts m empty T s h)
 

@@ -8,7 +8,7 @@ use Rattle.logic.specs.Searches.{H, Task, task, task_of, found, guide_of, sought
 use Rattle.logic.specs.Sets.{Set, ◌∈◌, empty, full}
 use Rattle.logic.specs.Walks.{Operator}
 use Rattle.logic.specs.Walks.Operator.{next, finally, globally, until, weak}
-use Rattle.logic.specs.Walks.Quantifier.{someWalk, everyWalk}
+use Rattle.logic.specs.Walks.Quantifier.{some_walk, every_walk}
 use Rattle.logic.proofs.Joining.{join, join_order, reach-guides, keep-guides}
 use Rattle.logic.proofs.Measures.{Follows}
 use Rattle.logic.proofs.Meeting.{Does, Done, nowhere, shows}
@@ -65,10 +65,10 @@ all_ours m until t = refl
 all_ours m weak t = refl
 
 pub search_misses : SearchMisses
-search_misses m law total someWalk op r left right s here h π w meet =
+search_misses m law total some_walk op r left right s here h π w meet =
     ⊎_elim (λ e. both_ways _ h (subst (λ T. s ∈ T) (all_ours m op _) (meet_sought m full op r left right s here e)))
-    (λ e. path_no m law total s here someWalk r left right op e π w (λ no. no meet)) (cases_Bool (sat_path m full op (Some r) left right s))
-search_misses m law total everyWalk op r left right s here h π w break =
-    ⊎_elim (λ e. path_yes m law total s here everyWalk r left right op e π w break)
+    (λ e. path_no m law total s here some_walk r left right op e π w (λ no. no meet)) (cases_Bool (sat_path m full op (Some r) left right s))
+search_misses m law total every_walk op r left right s here h π w break =
+    ⊎_elim (λ e. path_yes m law total s here every_walk r left right op e π w break)
     (λ e. both_ways _ h (subst (λ T. s ∈ T) (all_ours m op _) (break_sought m empty op r left right s here (not_from_false _ e))))
     (cases_Bool (sat_path m empty op (Some r) left right s))

@@ -2,7 +2,7 @@
 use Rattle.std.proofs.Common.{◌≡◌, ℕ, Bool, true, ◌&&◌, eqb, ltb, List, [], ◌∷◌, length, refl, ◌∙◌, subst, ⊎_elim, arith}
 use Rattle.std.proofs.ByRecursion.{All-get_or}
 use Rattle.std.proofs.lemmas.Bool.{and_parts, eqb-true, ltb-true, cases_Bool}
-use Rattle.std.specs.List.{AllByRecursion as All}
+use Rattle.std.specs.List.{AllByRecursion}
 use Rattle.model.proofs.Below.{some_decides, every_decides}
 use Rattle.model.specs.Below.{some, every}
 use Rattle.model.specs.Lawfulness.{listed_lawful, pooled_lawful, paired_lawful}
@@ -19,7 +19,7 @@ use Rattle.logic.specs.Trials.{Trial, staying_steps, staying_holdings, staying, 
 use Rattle.scale.specs.declared.reading.Reading.TheVariants.{Always}
 use Rattle.logic.specs.Walks.{Meets, Quantified}
 use Rattle.logic.specs.Walks.Operator.{globally}
-use Rattle.logic.specs.Walks.Quantifier.{someWalk, everyWalk}
+use Rattle.logic.specs.Walks.Quantifier.{some_walk, every_walk}
 use Rattle.logic.specs.declared.trials.Entry.{Entry}
 use Rattle.logic.proofs.Levels.{At, sat_is_walks, broken_by_some_walk}
 use Rattle.logic.proofs.Rows.{row_degree_is_value}
@@ -44,7 +44,7 @@ staying-lawful = listed_lawful 3 1 staying_steps staying_holdings
 alternating-lawful : Lawful alternating
 alternating-lawful = listed_lawful 2 1 alternating_steps alternating_holdings
 
-all_fit : All Fit subjects
+all_fit : AllByRecursion Fit subjects
 all_fit = (
   fit _ staying-lawful refl five_lawful,
   (
@@ -101,7 +101,7 @@ entry_true e h =
           ∙ eqb-true _ e.2 q.1;
     }
 
-all_true : (es : List Entry) → passes es ≡ true → All (λ e. TrueAt (subject e.0) e.1 e.2) es
+all_true : (es : List Entry) → passes es ≡ true → AllByRecursion (λ e. TrueAt (subject e.0) e.1 e.2) es
 unfolding passes
 all_true [] h = tt
 all_true (e ∷ es) h = let p = and_parts (test e) (passes es) h in (entry_true e p.0, all_true es p.1)
@@ -116,7 +116,7 @@ table_true = all_true table table_passes
 -- the first trial's row at state 0, by any truth values d of its operand
 module _ (d : ℕ → ℕ) (z : Truth staying five_valued p0 d) where
   abbrev row : Kind
-  row = path everyWalk globally
+  row = path every_walk globally
 
   total : Total staying
   total = all_fit.0.total
@@ -126,19 +126,19 @@ module _ (d : ℕ → ℕ) (z : Truth staying five_valued p0 d) where
       table_true.0.value (row_degree staying five_valued row d unused)
       (d, z, λ s h. row_degree_is_value staying staying-lawful total five_valued five_lawful row d unused s h)
 
-  highest : Highest 4 (At staying staying-lawful total five_valued five_lawful everyWalk globally d unused 0) 3
+  highest : Highest 4 (At staying staying-lawful total five_valued five_lawful every_walk globally d unused 0) 3
   highest =
-      subst (Highest 4 (At staying staying-lawful total five_valued five_lawful everyWalk globally d unused 0)) is_three
+      subst (Highest 4 (At staying staying-lawful total five_valued five_lawful every_walk globally d unused 0)) is_three
       (row_degree_is_value staying staying-lawful total five_valued five_lawful row d unused 0 (omega arith))
 
-  unbroken : At staying staying-lawful total five_valued five_lawful everyWalk globally d unused 0 3
+  unbroken : At staying staying-lawful total five_valued five_lawful every_walk globally d unused 0 3
   unbroken = highest.has (omega arith)
 
-  broken : Quantified someWalk staying 0 (λ π. ¬ Meets globally (five_valued.reading 4) (reach d 4) (reach unused 4) π)
+  broken : Quantified some_walk staying 0 (λ π. ¬ Meets globally (five_valued.reading 4) (reach d 4) (reach unused 4) π)
   broken =
       ⊎_elim
       (λ e. absurd (highest.none_above 4 (omega arith) (omega arith)
-      ((sat_is_walks staying staying-lawful total five_valued five_lawful everyWalk globally d unused 4 0 (omega arith) (omega arith) (omega arith)).0 e)))
+      ((sat_is_walks staying staying-lawful total five_valued five_lawful every_walk globally d unused 4 0 (omega arith) (omega arith) (omega arith)).0 e)))
       (λ e. broken_by_some_walk staying staying-lawful total globally Always (reach d 4) (reach unused 4) 0 (omega arith) e)
       (cases_Bool (sat staying five_valued row 4 d unused 0))
 

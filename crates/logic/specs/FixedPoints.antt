@@ -4,12 +4,12 @@ use Rattle.model.specs.Below.{some, every}
 use Rattle.model.specs.Meaning.{Meaning}
 use Rattle.logic.specs.Sets.{Set, empty, full}
 use Rattle.logic.specs.Walks.{Quantifier}
-use Rattle.logic.specs.Walks.Quantifier.{someWalk, everyWalk}
+use Rattle.logic.specs.Walks.Quantifier.{some_walk, every_walk}
 
 -- the states whose step is ours to choose: all under E, none under A
 abbrev pub choosing : Quantifier → Set
-choosing someWalk = full
-choosing everyWalk = empty
+choosing some_walk = full
+choosing every_walk = empty
 
 module _ (m : Meaning) (own : Set) where
   -- the states with some step into T where the step is ours to choose, and with all steps into T where it is not

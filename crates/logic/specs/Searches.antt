@@ -8,7 +8,7 @@ use Rattle.logic.specs.FixedPoints.{pre, rounds, lfp, gfp}
 use Rattle.logic.specs.Sets.{Set, ◌∈◌, empty, full, union, complement}
 use Rattle.logic.specs.Walks.{Walk, Operator, Meets, Quantifier}
 use Rattle.logic.specs.Walks.Operator.{next, finally, globally, until, weak}
-use Rattle.logic.specs.Walks.Quantifier.{someWalk, everyWalk}
+use Rattle.logic.specs.Walks.Quantifier.{some_walk, every_walk}
 
 -- the states of A, those of B with a step into U, and those of C with a step into V
 unfoldable pub H : Meaning → Set → Set → Set → Set → Set → Set → Set
@@ -64,13 +64,13 @@ break_task weak r left right = break_weak r left right
 
 -- what an E row's walk is to show, and an A row's
 abbrev pub task_of : Quantifier → Operator → Reading → Set → Set → Task
-task_of someWalk op r left right = meet_task op r left right
-task_of everyWalk op r left right = break_task op r left right
+task_of some_walk op r left right = meet_task op r left right
+task_of every_walk op r left right = break_task op r left right
 
 -- the walk meets the level (E), or breaks it (A)
 abbrev pub Shows : Quantifier → Operator → Reading → Set → Set → (ℕ → ℕ) → Type 0
-Shows someWalk op r left right π = Meets op (Some r) left right π
-Shows everyWalk op r left right π = ¬ Meets op (Some r) left right π
+Shows some_walk op r left right π = Meets op (Some r) left right π
+Shows every_walk op r left right π = ¬ Meets op (Some r) left right π
 
 -- of the states below n, those with a number below j are those of j rounds of f, for each j up to n + 1
 abbrev pub Joined : ℕ → (Set → Set) → (ℕ → ℕ) → Type 0

@@ -11,7 +11,7 @@ use Rattle.logic.specs.Kinds.Kind.{path}
 use Rattle.logic.specs.Satisfaction.{sat_path, sat, row_degree, degree}
 use Rattle.logic.specs.Sets.{Set, ◌∈◌, Within}
 use Rattle.logic.specs.Walks.{Operator, Meets, Quantifier, Quantified}
-use Rattle.logic.specs.Walks.Quantifier.{someWalk, everyWalk}
+use Rattle.logic.specs.Walks.Quantifier.{some_walk, every_walk}
 
 -- of the states below n, T is what f makes of T, and no set that f maps into itself has fewer
 pub record LeastFixed (n : ℕ) (f : Set → Set) (T : Set) : Type 0 where
@@ -45,7 +45,7 @@ SetsAreWalks =
 abbrev pub BrokenBySomeWalk : Type 0
 BrokenBySomeWalk =
     (m : Meaning) → Lawful m → Total m → (op : Operator) (r : Reading) (left right : Set) (s : ℕ) → s < m.states →
-    sat_path m (choosing everyWalk) op (Some r) left right s ≡ false → Quantified someWalk m s (λ π. ¬ Meets op (Some r) left right π)
+    sat_path m (choosing every_walk) op (Some r) left right s ≡ false → Quantified some_walk m s (λ π. ¬ Meets op (Some r) left right π)
 
 module _ (m : Meaning) (g : Grades) where
   -- the operands' degrees lie on the scale

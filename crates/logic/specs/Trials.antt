@@ -1,6 +1,6 @@
 -- Examples worked out by hand, and what the theorem over them says: of truth values by walks, not of sets.
 use Rattle.std.specs.Prelude.{◌≡◌, ℕ, ◌<◌, List, [], ◌∷◌, slice_index_or}
-use Rattle.std.specs.List.{AllByRecursion as All}
+use Rattle.std.specs.List.{AllByRecursion}
 use Rattle.model.specs.Meaning.{Meaning}
 use Rattle.model.specs.Pairs.{paired}
 use Rattle.model.specs.Pools.{pooled}
@@ -15,7 +15,7 @@ use Rattle.logic.specs.Formulas.Unary.{neg, X, G}
 use Rattle.logic.specs.Kinds.{reach}
 use Rattle.logic.specs.Walks.{Meets, Quantified}
 use Rattle.logic.specs.Walks.Operator.{globally}
-use Rattle.logic.specs.Walks.Quantifier.{someWalk, everyWalk}
+use Rattle.logic.specs.Walks.Quantifier.{some_walk, every_walk}
 use Rattle.logic.specs.declared.trials.Entry.{Entry}
 
 abbrev step : ℕ → ℕ → Step
@@ -52,17 +52,17 @@ abbrev pub p0 : Formula
 p0 = prop 0
 
 abbrev pub AG : Formula → Formula
-AG f = unary (G everyWalk) f
+AG f = unary (G every_walk) f
 
 abbrev pub EG : Formula → Formula
-EG f = unary (G someWalk) f
+EG f = unary (G some_walk) f
 
 abbrev pub no_torn_frame : Formula
 no_torn_frame = AG (unary neg p0)
 
 -- the implication that tells itself apart from "not or"
 abbrev pub implied : Formula
-implied = binary imp (AG p0) (unary (X someWalk) p0)
+implied = binary imp (AG p0) (unary (X some_walk) p0)
 
 pub record Trial : Type 0 where
   pub meaning : Meaning
@@ -79,7 +79,7 @@ subjects =
     ∷ trial staying five_valued (EG p0)
     ∷ trial alternating five_valued (AG p0)
     ∷ trial alternating five_valued (unary neg (AG p0))
-    ∷ trial alternating five_valued (binary (W everyWalk) p0 (AG p0))
+    ∷ trial alternating five_valued (binary (W every_walk) p0 (AG p0))
     ∷ trial alternating five_valued implied
     ∷ trial alternating boolean implied
     ∷ trial (pooled 1 0) five_valued no_torn_frame
@@ -117,15 +117,15 @@ pub record TrueAt (t : Trial) (s v : ℕ) : Type 0 where
   pub value : (d : ℕ → ℕ) → Truth t.meaning t.grades t.formula d → d s ≡ v
 
 abbrev pub TableTrue : Type 0
-TableTrue = All (λ e. TrueAt (subject e.0) e.1 e.2) table
+TableTrue = AllByRecursion (λ e. TrueAt (subject e.0) e.1 e.2) table
 
 -- from state 0 of the first trial some walk breaks level 4 and none breaks level 3, by the truth values d of p0
 abbrev pub BrokenAtFour : Type 0
 BrokenAtFour =
     (d : ℕ → ℕ) → Truth staying five_valued p0 d →
-    Quantified someWalk staying 0 (λ π. ¬ Meets globally (five_valued.reading 4) (reach d 4) (reach unused 4) π)
+    Quantified some_walk staying 0 (λ π. ¬ Meets globally (five_valued.reading 4) (reach d 4) (reach unused 4) π)
 
 abbrev pub UnbrokenAtThree : Type 0
 UnbrokenAtThree =
     (d : ℕ → ℕ) → Truth staying five_valued p0 d →
-    Quantified everyWalk staying 0 (λ π. Meets globally (five_valued.reading 3) (reach d 3) (reach unused 3) π)
+    Quantified every_walk staying 0 (λ π. Meets globally (five_valued.reading 3) (reach d 3) (reach unused 3) π)

@@ -36,8 +36,8 @@ Meets weak r left right π = Often r (λ j. (π j ∈ left) ⊎ Seen right π j)
 
 -- E asks for some walk that does P, A that no walk breaks it; to break P is not to do it
 pub data Quantifier : Type 0 where
-  someWalk everyWalk : Quantifier
+  some_walk every_walk : Quantifier
 
 abbrev pub Quantified : Quantifier → Meaning → ℕ → ((ℕ → ℕ) → Type 0) → Type 0
-Quantified someWalk m s P = (π : ℕ → ℕ) × Walk m s π × P π
-Quantified everyWalk m s P = (π : ℕ → ℕ) → Walk m s π → ¬ (¬ P π)
+Quantified some_walk m s P = (π : ℕ → ℕ) × Walk m s π × P π
+Quantified every_walk m s P = (π : ℕ → ℕ) → Walk m s π → ¬ (¬ P π)

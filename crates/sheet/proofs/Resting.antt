@@ -6,7 +6,7 @@ use Rattle.logic.specs.Kinds.{Kind}
 use Rattle.logic.specs.Kinds.Kind.{prop, or, and, neg, imp, path}
 use Rattle.logic.specs.Satisfaction.{row_degree, degree}
 use Rattle.logic.specs.Walks.Operator.{next, finally, globally, until, weak}
-use Rattle.logic.specs.Walks.Quantifier.{someWalk, everyWalk}
+use Rattle.logic.specs.Walks.Quantifier.{some_walk, every_walk}
 use Rattle.logic.proofs.Rows.{row_degree_is_value, value_unique}
 use Rattle.model.specs.Meaning.{Meaning, Lawful}
 use Rattle.model.specs.Walkable.{Total}
@@ -54,16 +54,16 @@ module _ (m : Meaning) (law : Lawful m) (total : Total m) (g : Grades) (orderly 
       (two 3 (λ e. omega arith) and)
       (one 4 (λ e. omega arith) neg)
       (two 5 (λ e. omega arith) imp)
-      (one 6 (λ e. omega arith) (path someWalk next))
-      (one 7 (λ e. omega arith) (path someWalk finally))
-      (one 8 (λ e. omega arith) (path someWalk globally))
-      (two 9 (λ e. omega arith) (path someWalk until))
-      (two 10 (λ e. omega arith) (path someWalk weak))
-      (one 11 (λ e. omega arith) (path everyWalk next))
-      (one 12 (λ e. omega arith) (path everyWalk finally))
-      (one 13 (λ e. omega arith) (path everyWalk globally))
-      (two 14 (λ e. omega arith) (path everyWalk until))
-      (two 15 (λ e. omega arith) (path everyWalk weak))
+      (one 6 (λ e. omega arith) (path some_walk next))
+      (one 7 (λ e. omega arith) (path some_walk finally))
+      (one 8 (λ e. omega arith) (path some_walk globally))
+      (two 9 (λ e. omega arith) (path some_walk until))
+      (two 10 (λ e. omega arith) (path some_walk weak))
+      (one 11 (λ e. omega arith) (path every_walk next))
+      (one 12 (λ e. omega arith) (path every_walk finally))
+      (one 13 (λ e. omega arith) (path every_walk globally))
+      (two 14 (λ e. omega arith) (path every_walk until))
+      (two 15 (λ e. omega arith) (path every_walk weak))
     where
       two : (i : ℕ) → (i ≡ 1 → ⊥) → (k : Kind) (a b a' b' : ℕ → ℕ) → ((i ≡ 1 → ⊥) → Agree a a') → (◌≡◌ {A = ℕ} 2 2 → Agree b b') → Agree (row_degree m g k a b) (row_degree m g k a' b')
       two i ne k a b a' b' ea eb = same_row k a b a' b' (ea ne) (eb refl)
@@ -97,16 +97,16 @@ module _ (f h f' h' : Formula) where
       (λ ef eh. two and (ef (λ e. omega arith)) (eh refl))
       (λ ef eh. ap (λ (f : Formula). formula_by neg f h) (ef (λ e. omega arith)))
       (λ ef eh. two imp (ef (λ e. omega arith)) (eh refl))
-      (λ ef eh. ap (λ (f : Formula). formula_by (path someWalk next) f h) (ef (λ e. omega arith)))
-      (λ ef eh. ap (λ (f : Formula). formula_by (path someWalk finally) f h) (ef (λ e. omega arith)))
-      (λ ef eh. ap (λ (f : Formula). formula_by (path someWalk globally) f h) (ef (λ e. omega arith)))
-      (λ ef eh. two (path someWalk until) (ef (λ e. omega arith)) (eh refl))
-      (λ ef eh. two (path someWalk weak) (ef (λ e. omega arith)) (eh refl))
-      (λ ef eh. ap (λ (f : Formula). formula_by (path everyWalk next) f h) (ef (λ e. omega arith)))
-      (λ ef eh. ap (λ (f : Formula). formula_by (path everyWalk finally) f h) (ef (λ e. omega arith)))
-      (λ ef eh. ap (λ (f : Formula). formula_by (path everyWalk globally) f h) (ef (λ e. omega arith)))
-      (λ ef eh. two (path everyWalk until) (ef (λ e. omega arith)) (eh refl))
-      (λ ef eh. two (path everyWalk weak) (ef (λ e. omega arith)) (eh refl))
+      (λ ef eh. ap (λ (f : Formula). formula_by (path some_walk next) f h) (ef (λ e. omega arith)))
+      (λ ef eh. ap (λ (f : Formula). formula_by (path some_walk finally) f h) (ef (λ e. omega arith)))
+      (λ ef eh. ap (λ (f : Formula). formula_by (path some_walk globally) f h) (ef (λ e. omega arith)))
+      (λ ef eh. two (path some_walk until) (ef (λ e. omega arith)) (eh refl))
+      (λ ef eh. two (path some_walk weak) (ef (λ e. omega arith)) (eh refl))
+      (λ ef eh. ap (λ (f : Formula). formula_by (path every_walk next) f h) (ef (λ e. omega arith)))
+      (λ ef eh. ap (λ (f : Formula). formula_by (path every_walk finally) f h) (ef (λ e. omega arith)))
+      (λ ef eh. ap (λ (f : Formula). formula_by (path every_walk globally) f h) (ef (λ e. omega arith)))
+      (λ ef eh. two (path every_walk until) (ef (λ e. omega arith)) (eh refl))
+      (λ ef eh. two (path every_walk weak) (ef (λ e. omega arith)) (eh refl))
     where
       two : (k : Kind) → f ≡ f' → h ≡ h' → formula_by k f h ≡ formula_by k f' h'
       two k ef eh = λ i. formula_by k (ef i) (eh i)

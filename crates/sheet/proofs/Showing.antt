@@ -8,7 +8,7 @@ use Rattle.logic.specs.Satisfaction.{degree}
 use Rattle.logic.specs.Sets.{Set, ◌∈◌}
 use Rattle.logic.specs.Walks.{Operator, Quantifier}
 use Rattle.logic.specs.Walks.Operator.{next, finally, globally, until, weak}
-use Rattle.logic.specs.Walks.Quantifier.{someWalk, everyWalk}
+use Rattle.logic.specs.Walks.Quantifier.{some_walk, every_walk}
 use Rattle.logic.proofs.Levels.{meets_map, read}
 use Rattle.logic.proofs.Values.{degree_is_truth, truth_unique}
 use Rattle.model.specs.Meaning.{Meaning, Lawful}
@@ -38,8 +38,8 @@ moved : (L M : Set) (π : ℕ → ℕ) → OnPath L M π → (j : ℕ) → π j 
 moved L M π e j h = sym (e j) ∙ h
 
 pub wanted_same : (q : Quantifier) (op : Operator) (r : Reading) (L R M N : Set) (π : ℕ → ℕ) → OnPath L M π → OnPath R N π → Wanted (path q op) (Some r) L R π → Wanted (path q op) (Some r) M N π
-wanted_same someWalk op r L R M N π el er h = meets_map op r r (omega arith) π L M R N (moved L M π el) (moved R N π er) h
-wanted_same everyWalk op r L R M N π el er h = λ k. h (meets_map op r r (omega arith) π M L N R (moved M L π (back L M π el)) (moved N R π (back R N π er)) k)
+wanted_same some_walk op r L R M N π el er h = meets_map op r r (omega arith) π L M R N (moved L M π el) (moved R N π er) h
+wanted_same every_walk op r L R M N π el er h = λ k. h (meets_map op r r (omega arith) π M L N R (moved M L π (back L M π el)) (moved N R π (back R N π er)) k)
 
 -- X, F and G do not look at the right operand
 abbrev pub left_only : Operator → Bool
@@ -50,16 +50,16 @@ left_only until = false
 left_only weak = false
 
 wanted_left : (q : Quantifier) (op : Operator) (r : Option Reading) (L R N : Set) (π : ℕ → ℕ) → left_only op ≡ true → Wanted (path q op) r L R π → Wanted (path q op) r L N π
-wanted_left someWalk next r L R N π e h = h
-wanted_left someWalk finally r L R N π e h = h
-wanted_left someWalk globally r L R N π e h = h
-wanted_left someWalk until r L R N π e h = absurd (both_ways false refl e)
-wanted_left someWalk weak r L R N π e h = absurd (both_ways false refl e)
-wanted_left everyWalk next r L R N π e h = h
-wanted_left everyWalk finally r L R N π e h = h
-wanted_left everyWalk globally r L R N π e h = h
-wanted_left everyWalk until r L R N π e h = absurd (both_ways false refl e)
-wanted_left everyWalk weak r L R N π e h = absurd (both_ways false refl e)
+wanted_left some_walk next r L R N π e h = h
+wanted_left some_walk finally r L R N π e h = h
+wanted_left some_walk globally r L R N π e h = h
+wanted_left some_walk until r L R N π e h = absurd (both_ways false refl e)
+wanted_left some_walk weak r L R N π e h = absurd (both_ways false refl e)
+wanted_left every_walk next r L R N π e h = h
+wanted_left every_walk finally r L R N π e h = h
+wanted_left every_walk globally r L R N π e h = h
+wanted_left every_walk until r L R N π e h = absurd (both_ways false refl e)
+wanted_left every_walk weak r L R N π e h = absurd (both_ways false refl e)
 
 module _ (m : Meaning) (law : Lawful m) (total : Total m) (g : Grades) (orderly : Orderly g) (l : ℕ) (some : 1 ≤ l) (most : l ≤ g.levels)
     (π : ℕ → ℕ) (inside : (i : ℕ) → π i < m.states) (q : Quantifier) (f h : Formula) (A B : Set) (left : OnPath A (reach (degree m g f) l) π) where

@@ -5,7 +5,7 @@ use Rattle.logic.specs.Kinds.{reach}
 use Rattle.logic.specs.Kinds.Kind.{path}
 use Rattle.logic.specs.Sets.{Set}
 use Rattle.logic.specs.Walks.{Quantifier, Operator}
-use Rattle.logic.specs.Walks.Quantifier.{someWalk, everyWalk}
+use Rattle.logic.specs.Walks.Quantifier.{some_walk, every_walk}
 use Rattle.model.specs.Faults.{Refusal}
 use Rattle.model.specs.Meaning.{Meaning}
 use Rattle.scale.specs.Grades.{Grades}
@@ -18,10 +18,10 @@ use Rattle.sheet.specs.declared.row.Row.{Row}
 
 module _ (m : Meaning) (k : ℕ) (ys xs : List ℕ) where
   seeks : (q : Quantifier) (op : Operator) (r : Reading) (L R : Set) (o : Option (ℕ × ℕ)) → ShownBy m q op r L R k ys xs o → Seeks m (Wanted (path q op) (Some r) L R) k ys xs o
-  seeks someWalk op r L R None h = h
-  seeks someWalk op r L R (Some c) h = record { written = h.written; walk = h.walk; does = h.does }
-  seeks everyWalk op r L R None h = h
-  seeks everyWalk op r L R (Some c) h = record { written = h.written; walk = h.walk; does = h.does }
+  seeks some_walk op r L R None h = h
+  seeks some_walk op r L R (Some c) h = record { written = h.written; walk = h.walk; does = h.does }
+  seeks every_walk op r L R None h = h
+  seeks every_walk op r L R (Some c) h = record { written = h.written; walk = h.walk; does = h.does }
 
   -- by the row's record and its operands' bytes
   pub seeks_by : (q : Quantifier) (op : Operator) (r : Reading) (L R : Set) (o : Option (ℕ × ℕ)) (g : Grades) (s : State) (x : Row) (l : ℕ) →

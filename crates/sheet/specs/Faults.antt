@@ -1,11 +1,11 @@
 -- What each fault of the sheet tells: its number, and the value that it names, else 0.
 use Rattle.std.specs.Prelude.{Ok, Err, Result}
-use Rattle.model.specs.Faults.{Refusal, refusal, told as toldOfModel}
+use Rattle.model.specs.Faults.{Refusal, refusal, told as told_of_model}
 use Rattle.sheet.specs.declared.fault.SheetFault.{SheetFault}
 use Rattle.sheet.specs.declared.fault.SheetFault.TheVariants.{Model, Differs, Short, Kind, Prop, Operand, NoRow, Byte, Level, NoPath, WalkShort, NoWalk}
 
 abbrev pub told : SheetFault → Refusal
-told (Model e) = toldOfModel e
+told (Model e) = told_of_model e
 told Differs = refusal 3 0
 told Short = refusal 4 0
 told Kind = refusal 5 0

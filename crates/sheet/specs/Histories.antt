@@ -1,6 +1,6 @@
 -- What a sheet and its two buffers have come through since the opening, the formulas of its rows, and the two laws.
 use Rattle.std.specs.Prelude.{◌≡◌, ℕ, ◌*◌, ◌<◌, ◌≤◌, ◌↔◌, List, [], ◌∷◌, ◌++◌, length, take, Ok, Err, Result, slice_index_or}
-use Rattle.logic.specs.Formulas.{Formula, Truth, unused, kind_of as kindOfUnary, kind_of_binary}
+use Rattle.logic.specs.Formulas.{Formula, Truth, unused, kind_of as kind_of_unary, kind_of_binary}
 use Rattle.logic.specs.Formulas.Formula.{unary, binary}
 use Rattle.logic.specs.Formulas.Unary.{X, F, G}
 use Rattle.logic.specs.Formulas.Binary.{U, W}
@@ -74,7 +74,7 @@ AsksWalks (binary (W q) f h) = Unit {0}
 -- under A it breaks it
 abbrev pub Does : Meaning → Grades → Formula → ℕ → (ℕ → ℕ) → Type 0
 Does m g (Formula.prop p) l π = ⊥
-Does m g (unary k f) l π = (a : ℕ → ℕ) × Truth m g f a × Wanted (kindOfUnary k) (g.reading l) (reach a l) (reach unused l) π
+Does m g (unary k f) l π = (a : ℕ → ℕ) × Truth m g f a × Wanted (kind_of_unary k) (g.reading l) (reach a l) (reach unused l) π
 Does m g (binary k f h) l π = (a : ℕ → ℕ) × (b : ℕ → ℕ) × Truth m g f a × Truth m g h b × Wanted (kind_of_binary k) (g.reading l) (reach a l) (reach b l) π
 
 -- some endless walk from k does it

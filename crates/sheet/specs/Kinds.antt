@@ -4,7 +4,7 @@ use Rattle.logic.specs.Kinds.{Kind}
 use Rattle.logic.specs.Kinds.Kind.{prop, or, and, neg, imp, path}
 use Rattle.logic.specs.Walks.{Operator}
 use Rattle.logic.specs.Walks.Operator.{next, finally, globally, until, weak}
-use Rattle.logic.specs.Walks.Quantifier.{someWalk, everyWalk}
+use Rattle.logic.specs.Walks.Quantifier.{some_walk, every_walk}
 
 -- X, F, G, U, W in this order
 abbrev pub operator_of : ℕ → Operator
@@ -14,7 +14,7 @@ operator_of i = cond (i == 0) next (cond (i == 1) finally (cond (i == 2) globall
 abbrev pub kind_of : ℕ → ℕ → Kind
 kind_of k a =
     cond (k == 1) (prop a) (cond (k == 2) or (cond (k == 3) and (cond (k == 4) neg (cond (k == 5) imp
-    (cond (nat_lt k 11) (path someWalk (operator_of (k - 6))) (path everyWalk (operator_of (k - 11))))))))
+    (cond (nat_lt k 11) (path some_walk (operator_of (k - 6))) (path every_walk (operator_of (k - 11))))))))
 
 -- how many operands a kind has, by number from 1
 abbrev pub counts : List ℕ

@@ -5,7 +5,7 @@ use Rattle.logic.specs.Kinds.{Kind, reach}
 use Rattle.logic.specs.Kinds.Kind.{prop, or, and, neg, imp, path}
 use Rattle.logic.specs.Sets.{Set}
 use Rattle.logic.specs.Walks.{Walk, Meets}
-use Rattle.logic.specs.Walks.Quantifier.{someWalk, everyWalk}
+use Rattle.logic.specs.Walks.Quantifier.{some_walk, every_walk}
 use Rattle.model.specs.Faults.{Refusal, refusal}
 use Rattle.model.specs.Meaning.{Meaning}
 use Rattle.model.specs.Walkable.{walkability}
@@ -66,8 +66,8 @@ Wanted or r left right π = ⊥
 Wanted and r left right π = ⊥
 Wanted neg r left right π = ⊥
 Wanted imp r left right π = ⊥
-Wanted (path someWalk op) r left right π = Meets op r left right π
-Wanted (path everyWalk op) r left right π = ¬ Meets op r left right π
+Wanted (path some_walk op) r left right π = Meets op r left right π
+Wanted (path every_walk op) r left right π = ¬ Meets op r left right π
 
 -- the same of a recorded row, judged by its operands' bytes
 abbrev pub WantedBy : Grades → State → Row → ℕ → (ℕ → ℕ) → Type 0

@@ -1,7 +1,7 @@
 use Rattle.std.proofs.Common.{◌+◌, List, get_or, drop, Ok, Err, sym, ap, ◌∙◌, arith}
 use Rattle.std.proofs.lemmas.List.{at_drop_all}
 use Rattle.std.proofs.lemmas.Result.{err_from_is_err_and}
-use Rattle.sheet.specs.Faults.{told as toldOfSheet}
+use Rattle.sheet.specs.Faults.{told as told_of_sheet}
 use Rattle.sheet.specs.States.{seen}
 use Rattle.text.specs.Kept.{items_of}
 use Rattle.text.specs.declared.script.Ask.{Ask}
@@ -26,7 +26,7 @@ returns-in_err-answer g c =
     rw (p.1, p.2)
     (asked_more (g.M.Model.meaning c.args.model.now) (g.S.Scale.grades c.args.scale.now) c.args.rows.now c.args.asks.now c.loop-ask.ask-index d (omega arith)
     (seen c.loop-ask.sheet c.loop-ask.records c.loop-ask.bytes) c.loop-ask.entered c.loop-ask.line (items_of c.loop-ask.done)
-    (Err (at_line e.line (toldOfSheet e.fault))) c.in_err-answer.ensures
+    (Err (at_line e.line (told_of_sheet e.fault))) c.in_err-answer.ensures
     ∙ c.loop-ask.invariant.0)
 
 pub loop-ask-preserved : goal.loop-ask-preserved

@@ -1,12 +1,12 @@
 -- What a call that was accepted has passed.
 use Rattle.std.proofs.Common.{◌≡◌, ℕ, ◌+◌, ◌*◌, ◌<◌, ◌≤◌, Bool, true, false, cond, not, ◌&&◌, ◌||◌, eqb, ltb, leb, length, Ok, Err, Result, sym, refl, ap, ⊎_elim, arith}
 use Rattle.std.proofs.lemmas.Bool.{or_parts, not-false, eqb-true, ltb-false, leb-false, eq-eqb, and_cases, both_ways, ne_eqb}
-use Rattle.model.specs.Faults.{Refusal}
+use Rattle.model.specs.Faults.{Refusal, refusal}
 use Rattle.model.specs.Meaning.{Meaning, Lawful}
 use Rattle.model.specs.Walkable.{Total, walkability}
 use Rattle.model.proofs.Walked.{walked-total}
 use Rattle.scale.specs.Grades.{Grades}
-use Rattle.sheet.specs.Calls.{refuse_if, and_then, leaving, fitting, roomy, formed, readable, entering, enter_answer, enter_leaves, with_row}
+use Rattle.sheet.specs.Calls.{refuse_if, and_then, leaving, entering, enter_answer, enter_leaves, with_row}
 use Rattle.sheet.specs.Kinds.{operands_of}
 use Rattle.sheet.specs.States.{State}
 use Rattle.sheet.specs.declared.row.Row.{Row}
@@ -46,22 +46,57 @@ unused_is : (t : Bool) (b c : ℕ) → cond t (leb c b) (not (eqb b 0)) ≡ fals
 unused_is false b c e h = eqb-true b 0 (not-false (eqb b 0) e)
 unused_is true b c e h = absurd (both_ways true h refl)
 
+-- the checks of `enter` have all passed, in whatever order they stand
+record Passed (m : Meaning) (s : State) (x : Row) : Type 0 where
+  walks : Ok tt ≡ walkability m
+  room : (leb 128 s.count || ltb (length s.records) (s.count + 1) || ltb (length s.degrees) ((s.count + 1) * s.states)) ≡ false
+  kind : (ltb x.kind 1 || ltb 15 x.kind) ≡ false
+  operands : (not (eqb x.kind 1) && leb s.count x.a || cond (eqb (operands_of x.kind) 2) (leb s.count x.b) (not (eqb x.b 0))) ≡ false
+
+ok : Result Unit Refusal → Bool
+ok (Ok u) = true
+ok (Err e) = false
+
+ok_then : (a r : Result Unit Refusal) → ok (and_then a r) ≡ (ok a && ok r)
+unfolding ok
+ok_then (Ok u) r = refl
+ok_then (Err e) r = refl
+
+ok_is : (a : Result Unit Refusal) → ok a ≡ true → Ok tt ≡ a
+unfolding ok
+ok_is (Ok u) e = refl
+ok_is (Err x) e = absurd (both_ways false refl e)
+
+lets_pass : (b : Bool) (e : Refusal) → ok (refuse_if b e) ≡ true → b ≡ false
+unfolding ok
+lets_pass false e h = refl
+lets_pass true e h = absurd (both_ways false refl h)
+
+entered_ok : (r : Result Unit Refusal) → Ok tt ≡ r → ok r ≡ true
+unfolding ok
+entered_ok r h = sym (ap ok h)
+
+all_passed : (m : Meaning) (g : Grades) (s : State) (x : Row) → Ok tt ≡ entering m g s x → Passed m s x
+all_passed m g s x h =
+    let all = simp ok_then at (entered_ok (entering m g s x) h) in
+    record {
+      walks = ok_is (walkability m) (grind arith);
+      room = lets_pass _ (refusal 4 0) (grind arith);
+      kind = lets_pass _ (refusal 5 0) (grind arith);
+      operands = lets_pass _ (refusal 7 0) (grind arith);
+    }
+
 pub accepted : (m : Meaning) → Lawful m → (g : Grades) (s : State) (x : Row) (n : ℕ) → Ok n ≡ enter_answer m g s x → Accepted m g s x n
 accepted m law g s x n h =
     let all = passed (entering m g s x) (Ok s.count) n h in
-    let p1 = passed (fitting s m g) _ tt all.0 in
-    let p2 = passed (walkability m) _ tt p1.1 in
-    let p3 = passed (roomy s) _ tt p2.1 in
-    let p4 = passed (formed s x) (readable s x) tt p3.1 in
-    let f1 = passed (refuse_if (ltb x.kind 1 || ltb 15 x.kind) _) _ tt p4.0 in
-    let f2 = passed (refuse_if (eqb x.kind 1 && leb s.props x.a) _) _ tt f1.1 in
-    let kinds = or_parts (ltb x.kind 1) (ltb 15 x.kind) (checked _ _ tt f1.0) in
-    let rooms = or_parts (leb 128 s.count || ltb (length s.records) (s.count + 1)) (ltb (length s.degrees) ((s.count + 1) * s.states)) (checked _ _ tt p3.0) in
+    let p = all_passed m g s x all.0 in
+    let kinds = or_parts (ltb x.kind 1) (ltb 15 x.kind) p.kind in
+    let rooms = or_parts (leb 128 s.count || ltb (length s.records) (s.count + 1)) (ltb (length s.degrees) ((s.count + 1) * s.states)) p.room in
     let room = or_parts (leb 128 s.count) (ltb (length s.records) (s.count + 1)) rooms.0 in
-    let operands = or_parts (not (eqb x.kind 1) && leb s.count x.a) (cond (eqb (operands_of x.kind) 2) (leb s.count x.b) (not (eqb x.b 0))) (checked _ _ tt f2.1) in
+    let operands = or_parts (not (eqb x.kind 1) && leb s.count x.a) (cond (eqb (operands_of x.kind) 2) (leb s.count x.b) (not (eqb x.b 0))) p.operands in
     record {
       number = let e = all.1 in cc;
-      total = walked-total m law tt p2.0;
+      total = walked-total m law tt p.walks;
       records = omega (arith, ltb-false (length s.records) (s.count + 1) room.1);
       bytes = ltb-false (length s.degrees) ((s.count + 1) * s.states) rooms.1;
       some_kind = ltb-false x.kind 1 kinds.0;

@@ -68,7 +68,7 @@ module _ (m : Meaning) (law : Lawful m) (total : Total m) (g : Grades) (orderly 
       two : (i : ℕ) → (i ≡ 1 → ⊥) → (k : Kind) (a b a' b' : ℕ → ℕ) → ((i ≡ 1 → ⊥) → Agree a a') → (◌≡◌ {A = ℕ} 2 2 → Agree b b') → Agree (row_degree m g k a b) (row_degree m g k a' b')
       two i ne k a b a' b' ea eb = same_row k a b a' b' (ea ne) (eb refl)
 
-      one : (i : ℕ) → (i ≡ 1 → ⊥) → (k : Kind) (a b a' b' : ℕ → ℕ) → ((i ≡ 1 → ⊥) → Agree a a') → (◌≡◌ {A = ℕ} 1 2 → Agree b b') → Agree (row_degree m g k a b) (row_degree m g k a' b)
+      one : (i : ℕ) → (i ≡ 1 → ⊥) → (k : Kind) (a b a' b' : ℕ → ℕ) → ((i ≡ 1 → ⊥) → Agree a a') → (operands_of i ≡ 2 → Agree b b') → Agree (row_degree m g k a b) (row_degree m g k a' b)
       one i ne k a b a' b' ea eb = same_row k a b a' b (ea ne) (λ s here. refl)
 
 -- the degree of a formula is that of its row

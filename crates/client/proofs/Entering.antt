@@ -1,4 +1,5 @@
 -- Three rows entered on a new sheet: what the last stands for.
+use Rattle.std.specs.Result.{result_ok}
 use Rattle.std.proofs.Common.{◌≡◌, ℕ, ◌*◌, ◌<◌, ◌≤◌, List, [], ◌∷◌, length, Ok, Err, Result, sym, refl, ap, ◌∙◌, subst, arith}
 use Rattle.logic.specs.Formulas.{Formula, Truth}
 use Rattle.logic.specs.Formulas.Formula.{prop, unary}
@@ -8,13 +9,14 @@ use Rattle.model.specs.Faults.{Refusal}
 use Rattle.model.specs.Meaning.{Meaning, Lawful}
 use Rattle.scale.specs.Grades.{Grades, Lawful as Orderly}
 use Rattle.sheet.specs.Calls.{open_answer, enter_answer, enter_leaves}
-use Rattle.sheet.specs.Histories.{History, opened, entered, formula_at, standing, AsksWalks, Does, SomeWalkDoes, TrueWalk, DegreeIsTrue, WalkIsTrue}
+use Rattle.sheet.specs.Faults.{answer}
+use Rattle.sheet.specs.Histories.{History, opened, entered, formula_at, standing, AsksWalks, TrueWalk, DegreeIsTrue, WalkIsTrue}
 use Rattle.sheet.specs.States.{State}
-use Rattle.sheet.specs.Walking.{Granted}
 use Rattle.sheet.specs.declared.row.Row.{Row}
 use Rattle.sheet.proofs.Accepted.{accepted}
+use Rattle.sheet.specs.declared.fault.SheetFault.{SheetFault}
 use Rattle.sheet.proofs.Kept.{kept}
-use Rattle.client.specs.Promise.{never_holds}
+use Rattle.client.specs.Promise.{never_holds, Broken}
 
 abbrev row : ℕ → ℕ → Row
 row k x = record { kind = k; a = x; b = 0 }
@@ -31,11 +33,11 @@ module _ (m : Meaning) (law : Lawful m) (g : Grades) (orderly : Orderly g) where
   numbered : {s : State} {fs : List Formula} (x : Row) (n : ℕ) → History m g s fs → Ok n ≡ enter_answer m g s x → n ≡ length fs
   numbered {s} {fs} x n h a = (accepted m law g s x n a).number ∙ (kept m law g orderly h).count
 
-  pub stands : (p a b c : ℕ) (s0 s1 s2 s3 : State) (rs : List Row) (bs : List ℕ) → Ok s0 ≡ open_answer m g rs bs →
+  rows_stand : (p a b c : ℕ) (s0 s1 s2 s3 : State) (rs : List Row) (bs : List ℕ) → Ok s0 ≡ open_answer m g rs bs →
       Ok a ≡ enter_answer m g s0 (row 1 p) → s1 ≡ enter_leaves m g s0 (row 1 p) →
       Ok b ≡ enter_answer m g s1 (row 4 a) → s2 ≡ enter_leaves m g s1 (row 4 a) →
       Ok c ≡ enter_answer m g s2 (row 13 b) → s3 ≡ enter_leaves m g s2 (row 13 b) → Standing m g p s3 c
-  stands p a b c s0 s1 s2 s3 rs bs o a1 l1 a2 l2 a3 l3 =
+  rows_stand p a b c s0 s1 s2 s3 rs bs o a1 l1 a2 l2 a3 l3 =
       let f1 : Formula = prop p in
       let f2 : Formula = unary neg f1 in
       let h0 : History m g s0 [] = opened rs bs o in
@@ -47,6 +49,16 @@ module _ (m : Meaning) (law : Lawful m) (g : Grades) (orderly : Orderly g) where
       let h3 : History m g s3 (f1 ∷ f2 ∷ never_holds p ∷ []) = subst (History m g s3) (λ i. standing (f1 ∷ f2 ∷ []) (e3 i) (unary (G every_walk) (formula_at (f1 ∷ f2 ∷ []) (e2 i)))) (entered (row 13 b) c h2 a3 l3) in
       record { formulas = f1 ∷ f2 ∷ never_holds p ∷ []; history = h3; there = omega arith; is = ap (formula_at (f1 ∷ f2 ∷ never_holds p ∷ [])) e3 }
 
+  -- the same of any rows that are these
+  pub stands : (p a b c : ℕ) (s0 s1 s2 s3 : State) (rs : List Row) (bs : List ℕ) → Ok s0 ≡ open_answer m g rs bs →
+      (x y z : Row) → x ≡ row 1 p → y ≡ row 4 a → z ≡ row 13 b →
+      Ok a ≡ enter_answer m g s0 x → s1 ≡ enter_leaves m g s0 x → Ok b ≡ enter_answer m g s1 y → s2 ≡ enter_leaves m g s1 y →
+      Ok c ≡ enter_answer m g s2 z → s3 ≡ enter_leaves m g s2 z → Standing m g p s3 c
+  stands p a b c s0 s1 s2 s3 rs bs o x y z ex ey ez a1 l1 a2 l2 a3 l3 =
+      rows_stand p a b c s0 s1 s2 s3 rs bs o
+      (a1 ∙ ap (enter_answer m g s0) ex) (l1 ∙ ap (enter_leaves m g s0) ex) (a2 ∙ ap (enter_answer m g s1) ey) (l2 ∙ ap (enter_leaves m g s1) ey)
+      (a3 ∙ ap (enter_answer m g s2) ez) (l3 ∙ ap (enter_leaves m g s2) ez)
+
 -- what the laws say of that row
 module _ (m : Meaning) (law : Lawful m) (g : Grades) (orderly : Orderly g) (p n k l : ℕ) (s : State) (S : Standing m g p s n) where
   pub judged_degree : (v : ℕ) → DegreeIsTrue s n k (Ok v) → k < m.states → (d : ℕ → ℕ) × Truth m g (never_holds p) d × (v ≡ d k)
@@ -55,12 +67,10 @@ module _ (m : Meaning) (law : Lawful m) (g : Grades) (orderly : Orderly g) (p n 
       (d, subst (λ (f : Formula). Truth m g f d) S.is t, let same : v ≡ d k = cc in same)
 
   module _ (ys xs : List ℕ) (inside : k < m.states) (some : 1 ≤ l) (most : l ≤ g.levels) (room : 2 * m.states ≤ length ys) where
-    tells : (answer : Result (ℕ × ℕ) Refusal) → WalkIsTrue s n k l ys xs answer m g → TrueWalk m g (never_holds p) l k ys xs answer
-    tells answer true' =
-        subst (λ (f : Formula). TrueWalk m g f l k ys xs answer) S.is (true' S.formulas S.history S.there (subst AsksWalks (sym S.is) tt) inside some most room)
+    tells : (r : Result (ℕ × ℕ) Refusal) → WalkIsTrue s n k l ys xs r m g → TrueWalk m g (never_holds p) l k ys xs r
+    tells r true' =
+        subst (λ (f : Formula). TrueWalk m g f l k ys xs r) S.is (true' S.formulas S.history S.there (subst AsksWalks (sym S.is) tt) inside some most room)
 
-    pub judged_run : (c : ℕ × ℕ) → WalkIsTrue s n k l ys xs (Ok c) m g → Granted m (Does m g (never_holds p) l) k ys xs c.0 c.1
-    judged_run c true' = (tells (Ok c) true').shown c.0 c.1 refl
-
-    pub judged_none : (e : Refusal) → WalkIsTrue s n k l ys xs (Err e) m g → ¬ SomeWalkDoes m g (never_holds p) l k
-    judged_none e true' one = let (a, b, q) = (tells (Err e) true').granted.0 one in let z : ◌≡◌ {A = ℕ} 0 1 = cc in absurd (omega arith)
+    pub judged_walk : (r : Result (ℕ × ℕ) SheetFault) → WalkIsTrue s n k l ys xs (answer r) m g → Broken m g p k l ys xs (result_ok r)
+    judged_walk (Ok c) true' = (tells (Ok c) true').shown c.0 c.1 refl
+    judged_walk (Err e) true' = λ one. let (a, b, q) = (tells (answer (Err e)) true').granted.0 one in cc

@@ -4,9 +4,11 @@
 ghost use Rattle.std.specs.Prelude.{ℕ, IfOk};
 ghost use Rattle.client.specs.Promise.{Judged};
 
+use engine::operator::Operator;
 use model::interface::Model;
 use scale::scales::Scale;
 use sheet::fault::SheetFault;
+use sheet::kinds::Kind;
 use sheet::row::Row;
 use sheet::sheet::Sheet;
 
@@ -31,43 +33,15 @@ pub fn never_holds<M: Model, S: Scale>(
     ensures { IfOk result (λ v. Judged (M.meaning model.now) (S.grades scale.now) p state level out.old out.new v) }
 {
     let mut sheet = Sheet::open(model, scale)?;
-    let held = sheet.enter(
-        model,
-        scale,
-        rows,
-        bytes,
-        Row {
-            kind: 1,
-            a: p,
-            b: 0,
-        },
-    )?;
-    let free = sheet.enter(
-        model,
-        scale,
-        rows,
-        bytes,
-        Row {
-            kind: 4,
-            a: held,
-            b: 0,
-        },
-    )?;
-    let never = sheet.enter(
-        model,
-        scale,
-        rows,
-        bytes,
-        Row {
-            kind: 13,
-            a: free,
-            b: 0,
-        },
-    )?;
+    let holds = Row::of(Kind::Prop, p, 0);
+    let held = sheet.enter(model, scale, rows, bytes, holds)?;
+    let not = Row::of(Kind::Not, held, 0);
+    let free = sheet.enter(model, scale, rows, bytes, not)?;
+    let always = Row::of(Kind::A(Operator::Globally), free, 0);
+    let never = sheet.enter(model, scale, rows, bytes, always)?;
     let degree = sheet.degree(bytes, never, state)?;
-    let run = match sheet.walk(model, scale, rows, bytes, never, state, level, out) {
-        Ok(counts) => Some(counts),
-        Err(_) => None,
-    };
+    let run = sheet
+        .walk(model, scale, rows, bytes, never, state, level, out)
+        .ok();
     Ok(Verdict { degree, run })
 }

@@ -7,9 +7,8 @@ use Rattle.logic.proofs.Rounds.{up_to}
 use Rattle.logic.proofs.Sets.{Monotone, same_test}
 use Rattle.logic.specs.FixedPoints.{rounds}
 use Rattle.logic.specs.Sets.{Set, empty, Within}
-use Rattle.engine.specs.Marks.{round_of, before}
+use Rattle.engine.specs.Marks.{round_of, before, Rounds}
 use Rattle.engine.specs.Rounded.{never, Joins, joined, Round}
-use Rattle.engine.specs.declared.rounds.Rounds.{Rounds}
 
 -- a monotone operator depends on the states below n alone
 pub alike : (n : ℕ) (f : Set → Set) → Monotone n f → (T U : Set) → ((s : ℕ) → s < n → T s ≡ U s) → (s : ℕ) → s < n → f T s ≡ f U s
@@ -25,9 +24,9 @@ pub everywhere : {X : Type 0} (xs : List X) (v d : X) (n s : ℕ) → n ≤ 4096
 everywhere xs v d n s few e l = ap (λ ys. get_or ys s d) e ∙ get_or-replicate 4096 s v d (omega arith)
 
 -- before the first round no state has joined
-pub none-joined : (n : ℕ) (f : Set → Set) (x : Rounds) → n ≤ 4096 → x.rounds ≡ replicate 4096 never → Joins n f x 0 × Past n x 0
+pub none-joined : (n : ℕ) (f : Set → Set) (x : Rounds) → n ≤ 4096 → x.at ≡ replicate 4096 never → Joins n f x 0 × Past n x 0
 none-joined n f x few e =
-    let at : (s : ℕ) → s < n → round_of x s ≡ never = λ s l. everywhere x.rounds never 0 n s few e l in
+    let at : (s : ℕ) → s < n → round_of x s ≡ never = λ s l. everywhere x.at never 0 n s few e l in
     ((λ s l j h. let z : j ≡ 0 = omega arith in rw z (le-ltb (round_of x s) 0 (omega arith))), (λ s l. inr (at s l)))
 
 joined_cases : (b : Bool) (k r : ℕ) → ((r ≡ never) × (b ≡ true) × (joined b k r ≡ k)) ⊎ ((r ≡ never → b ≡ false) × (joined b k r ≡ r))

@@ -1,3 +1,5 @@
+pub mod Stepping
+mod Filled
 pub mod Hits
 pub mod Growing
 pub mod Turning

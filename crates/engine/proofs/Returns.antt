@@ -1,5 +1,6 @@
 -- Nested fixed points of H by F alone.
 use Rattle.std.proofs.Common.{◌≡◌, ℕ, zero, suc, ◌+◌, ◌<◌, ◌≤◌, Bool, true, false, not, ◌&&◌, ◌||◌, ltb, sym, refl, ap, ◌∙◌, subst, ⊎_elim, add-one, arith}
+use native.Mathlib.Decide.{le_ind}
 use Rattle.std.proofs.lemmas.Bool.{lt-ltb, and_from, and_parts, or_cases, or_left, or_right}
 use Rattle.model.specs.Meaning.{Meaning}
 use Rattle.logic.proofs.Rounds.{rounds-within, gfp_open, gfp_shut}
@@ -9,14 +10,17 @@ use Rattle.logic.proofs.Steps.{pre-within}
 use Rattle.logic.specs.FixedPoints.{pre, F, rounds, gfp}
 use Rattle.logic.specs.Searches.{H}
 use Rattle.logic.specs.Sets.{Set, empty, full, Within}
-use Rattle.engine.specs.Marks.{members, round_of, before, ours}
+use Rattle.engine.specs.Marks.{members, round_of, before, ours, Rounds, StateSet}
 use Rattle.engine.specs.Passing.{step_h, returned, Returning, remained}
-use Rattle.engine.specs.Rounded.{Joins, Leaves, step_f, Holds, Applied}
-use Rattle.engine.specs.declared.rounds.Rounds.{Rounds}
-use Rattle.engine.specs.declared.sets.StateSet.{StateSet}
+use Rattle.engine.specs.Rounded.{Joins, Leaves, joined, Round, step_f, Holds, Applied}
 use Rattle.engine.proofs.Growing.{alike}
-use Rattle.engine.proofs.Nesting.{Same, still-rounds}
+use Rattle.engine.proofs.Nesting.{Same}
 use Rattle.engine.proofs.Turning.{rounds_alike}
+
+-- where one round changes nothing, no later one does
+still-rounds : (n : ℕ) (f : Set → Set) → ((T U : Set) → Same n T U → Same n (f T) (f U)) → (T : Set) (i : ℕ) → Same n (rounds f (suc i) T) (rounds f i T) → (k : ℕ) → i ≤ k → Same n (rounds f k T) (rounds f i T)
+still-rounds n f ext T i h =
+    le_ind (λ k. Same n (rounds f k T) (rounds f i T)) (λ s l. refl) (λ k q ih s l. ext (rounds f k T) (rounds f i T) ih s l ∙ h s l)
 
 -- H is F of what F makes of its last set
 swap : (a b u c v : Bool) → (a || b && u || c && v) ≡ ((a || c && v) || b && u)
@@ -156,3 +160,7 @@ module _ (m : Meaning) (some : Bool) (right pass left : StateSet) where
     stayed x ls s q =
         ls s q (suc m.states) (omega arith)
         ∙ rounds_alike m.states (step_f m some base left) (λ T2. step_h m some right pass left T1 T2) settle_step full (suc m.states) s q
+
+-- the states of T join in round k
+pub round_of_lem : (n : ℕ) (f : Set → Set) (T : Set) (k : ℕ) (x y : Rounds) (grew : Bool) → Same n T (f (before x k)) → Round n (λ U. T) k x y grew → Round n f k x y grew
+round_of_lem n f T k x y grew e r = record { each = λ s q. r.each s q ∙ ap (λ b. joined b k (round_of x s)) (e s q); still = r.still }

@@ -1,34 +1,31 @@
 -- Rounds of nested fixed points guide the search of every operator but X.
-use Rattle.std.proofs.Common.{◌≡◌, suc, Bool, true, false, refl, arith}
-use Rattle.std.proofs.lemmas.Bool.{both_ways}
+use Rattle.std.proofs.Common.{◌≡◌, suc, true, false, refl, arith}
 use Rattle.model.specs.Meaning.{Meaning}
-use Rattle.logic.specs.Searches.{Task, task, found, guide_of, Joined, sought, Guides}
-use Rattle.engine.specs.Marks.{members, round_of, before}
+use Rattle.logic.specs.Searches.{Task as Asked, found, guide_of, Joined, sought, Guides}
+use Rattle.engine.specs.Marks.{round_of, before, Rounds}
 use Rattle.engine.specs.Passing.{Returning, remained}
 use Rattle.engine.specs.Rounded.{Joins}
 use Rattle.engine.specs.Satisfied.{asked}
 use Rattle.engine.specs.Seeking.{found_by}
+use Rattle.engine.specs.Shown.{carried}
 use Rattle.engine.specs.declared.operator.Operator.{Operator}
 use Rattle.engine.specs.declared.operator.Operator.TheVariants.{Next, Finally, Globally, Until, Weak}
-use Rattle.engine.specs.declared.rounds.Rounds.{Rounds}
-use Rattle.engine.specs.declared.sets.StateSet.{StateSet}
+use Rattle.engine.specs.declared.tasks.Task.{Task}
 use Rattle.engine.proofs.Nesting.{Same}
 
 -- the rounds guide the search, and find the states that it is to find
-pub record Guiding (m : Meaning) (t : Task) (x : Rounds) : Type 0 where
+pub record Guiding (m : Meaning) (t : Asked) (x : Rounds) : Type 0 where
   pub guides : Joined m.states (guide_of m t) (round_of x)
   pub finds : Same m.states (before x (suc m.states)) (found m t)
 
-module _ (m : Meaning) (a b c : StateSet) (x : Rounds) where
-  pub by_remaining : (k : Bool) → k ≡ true → Joins m.states (remained m true a b c) x (suc m.states) → Guiding m (task (members a) (members b) (members c) k) x
-  by_remaining true e js = record { guides = js; finds = λ s q. js s q (suc m.states) (omega arith) }
-  by_remaining false e js = absurd (both_ways false refl e)
+module _ (m : Meaning) (t : Task) (x : Rounds) where
+  pub by_remaining : t.settles ≡ true → Joins m.states (remained m true t.a t.b t.c) x (suc m.states) → Guiding m (carried t) x
+  by_remaining e js = rw e (record { guides = js; finds = λ s q. js s q (suc m.states) (omega arith) })
 
-  pub by_returning : (k : Bool) → k ≡ false → Returning m true a b c x → Guiding m (task (members a) (members b) (members c) k) x
-  by_returning true e r = absurd (both_ways true e refl)
-  by_returning false e r = record { guides = r.rounds_of; finds = r.set }
+  pub by_returning : t.settles ≡ false → Returning m true t.a t.b t.c x → Guiding m (carried t) x
+  by_returning e r = rw e (record { guides = r.rounds_of; finds = r.set })
 
-module _ (m : Meaning) (t : Task) (x : Rounds) (f : Guiding m t x) where
+module _ (m : Meaning) (t : Asked) (x : Rounds) (f : Guiding m t x) where
   pub guided : (o : Operator) → (o ≡ Next → ⊥) → Guides m (asked o) t (round_of x)
   guided Next ne = absurd (ne refl)
   guided Finally ne = f.guides

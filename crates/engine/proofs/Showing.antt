@@ -9,7 +9,7 @@ use Rattle.logic.specs.Sets.{Set}
 use Rattle.logic.specs.Walks.{Quantifier, Operator}
 use Rattle.engine.specs.Lassos.{Searched}
 use Rattle.engine.specs.Marks.{members}
-use Rattle.engine.specs.Shown.{Carries, ShownBy}
+use Rattle.engine.specs.Shown.{carried, Carries, ShownBy}
 use Rattle.engine.specs.declared.tasks.Task.{Task}
 use Rattle.engine.proofs.Agreeing.{same-sought, same-guides}
 
@@ -19,7 +19,7 @@ module _ (m : Meaning) (law : Lawful m) (total : Total m) (q : Quantifier) (op :
 
   -- what the code searched for, and what was asked
   abbrev had : Asked
-  had = task (members x.a) (members x.b) (members x.c) x.settles
+  had = carried x
 
   sought_is : (s : ℕ) → s < m.states → sought m op had s ≡ sought m op t s
   sought_is s l =

@@ -7,10 +7,8 @@ use Rattle.logic.proofs.Rules.{F_monotone}
 use Rattle.logic.proofs.Steps.{pre_parts, pre_dual}
 use Rattle.logic.specs.FixedPoints.{pre, F, rounds}
 use Rattle.logic.specs.Sets.{Set, ◌∈◌, empty, complement}
-use Rattle.engine.specs.Marks.{members, ours}
+use Rattle.engine.specs.Marks.{members, ours, Rounds, StateSet}
 use Rattle.engine.specs.Rounded.{Joins, Leaves, Turned, step_f}
-use Rattle.engine.specs.declared.rounds.Rounds.{Rounds}
-use Rattle.engine.specs.declared.sets.StateSet.{StateSet}
 use Rattle.engine.proofs.Growing.{alike}
 
 -- both sides cannot have their way

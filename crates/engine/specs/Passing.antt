@@ -4,10 +4,8 @@ use Rattle.model.specs.Meaning.{Meaning}
 use Rattle.logic.specs.FixedPoints.{lfp, gfp}
 use Rattle.logic.specs.Searches.{H}
 use Rattle.logic.specs.Sets.{Set}
-use Rattle.engine.specs.Marks.{members, before, ours}
+use Rattle.engine.specs.Marks.{members, before, ours, Rounds, StateSet}
 use Rattle.engine.specs.Rounded.{Joins}
-use Rattle.engine.specs.declared.rounds.Rounds.{Rounds}
-use Rattle.engine.specs.declared.sets.StateSet.{StateSet}
 
 module _ (m : Meaning) (some : Bool) (right pass left : StateSet) where
   -- H from three sets as the code has them

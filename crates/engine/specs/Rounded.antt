@@ -1,11 +1,10 @@
 -- What the engine's loops leave.
 use Rattle.std.specs.Prelude.{◌≡◌, ℕ, suc, ◌<◌, ◌≤◌, Bool, false, cond, not, ◌&&◌, ◌==◌}
+use Rattle.std.specs.Borrow.{MutBor}
 use Rattle.model.specs.Meaning.{Meaning}
 use Rattle.logic.specs.FixedPoints.{F, G, rounds, lfp, gfp}
-use Rattle.logic.specs.Sets.{Set, empty, full}
-use Rattle.engine.specs.Marks.{members, round_of, before, ours}
-use Rattle.engine.specs.declared.rounds.Rounds.{Rounds}
-use Rattle.engine.specs.declared.sets.StateSet.{StateSet}
+use Rattle.logic.specs.Sets.{Set, empty, full, Within}
+use Rattle.engine.specs.Marks.{members, round_of, before, ours, Rounds, StateSet}
 
 -- the round of a state that never joins
 abbrev pub never : ℕ
@@ -23,6 +22,14 @@ joined b k r = cond (r == never && b) k r
 pub record Round (n : ℕ) (f : Set → Set) (k : ℕ) (x y : Rounds) (grew : Bool) : Type 0 where
   pub each : (s : ℕ) → s < n → round_of y s ≡ joined (f (before x k) s) k (round_of x s)
   pub still : grew ≡ false → (s : ℕ) → s < n → round_of y s ≡ round_of x s
+
+-- whatever a call with k, as post tells of it, leaves is round k of f
+abbrev pub EachRound : ℕ → (Set → Set) → (ℕ → MutBor Rounds → Bool → MutBor Rounds → Type 0) → Type 0
+EachRound n f post = (k : ℕ) (x y : MutBor Rounds) (b : Bool) → k < never → post k x b y → Round n f k x.now y.now b
+
+-- f of more states has more states
+abbrev pub Grows : ℕ → (Set → Set) → Type 0
+Grows n f = (T U : Set) → Within n T U → Within n (f T) (f U)
 
 -- F from two sets as the code has them
 abbrev pub step_f : Meaning → Bool → StateSet → StateSet → Set → Set

@@ -5,8 +5,7 @@ use Rattle.logic.specs.FixedPoints.{pre}
 use Rattle.logic.specs.Sets.{Set, full}
 use Rattle.logic.specs.Walks.{Operator}
 use Rattle.logic.specs.Walks.Operator.{next, finally, globally, until, weak}
-use Rattle.engine.specs.Marks.{before}
-use Rattle.engine.specs.declared.rounds.Rounds.{Rounds}
+use Rattle.engine.specs.Marks.{before, Rounds}
 
 -- a step from s to t, and none to a lower ρ
 pub record Goes (m : Meaning) (ρ : ℕ → ℕ) (s t : ℕ) : Type 0 where

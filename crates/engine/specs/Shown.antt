@@ -2,12 +2,17 @@
 use Rattle.std.specs.Prelude.{◌≡◌, ℕ, List, Some, None, Option}
 use Rattle.model.specs.Meaning.{Meaning}
 use Rattle.scale.specs.declared.reading.Reading.{Reading}
-use Rattle.logic.specs.Searches.{Task as Asked, Shows}
+use Rattle.logic.specs.Searches.{Task as Asked, task, Shows}
 use Rattle.logic.specs.Sets.{Set}
 use Rattle.logic.specs.Walks.{Walk, Quantifier, Operator}
 use Rattle.engine.specs.declared.tasks.Task.{Task}
 use Rattle.engine.specs.Lassos.{endless, Written}
+use Rattle.engine.specs.Marks.{members}
 use Rattle.engine.specs.Rounded.{Holds}
+
+-- the task that the code's sets say
+abbrev pub carried : Task → Asked
+carried x = task (members x.a) (members x.b) (members x.c) x.settles
 
 -- the code's sets are those of the task below n
 pub record Carries (n : ℕ) (t : Asked) (x : Task) : Type 0 where

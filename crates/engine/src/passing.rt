@@ -1,36 +1,32 @@
-//! Nested fixed points of H: those of G where some states alone may be passed.
-ghost use Rattle.std.specs.Prelude.{◌≡◌, suc, ◌<◌, true, replicate};
+//! Nested fixed points of H, where some states alone may be passed.
+ghost use Rattle.std.specs.Prelude.{◌≡◌, ℕ, suc, ◌+◌, ◌<◌, ◌≤◌, not};
+ghost use Rattle.engine.specs.Marks.{before};
 ghost use Rattle.engine.specs.Passing.{Returning, remained};
-ghost use Rattle.engine.specs.Rounded.{Joins, Round};
+ghost use Rattle.engine.specs.Rounded.{Applied, Joins, Round, step_f};
 
 use crate::greatest::greatest;
-use crate::least::least;
-use crate::nested::{apply, merge};
+use crate::least::{fill, least};
 use crate::rounds::{NEVER, Rounds};
 use crate::sets::StateSet;
+use crate::steps::in_f;
 use model::interface::Model;
 
-/// As `returning`, from all states.
-fn repeat<M: Model>(
+/// Marks in `base` the states of F of S1, S2 and the states that joined before round `k`. Did a mark change?
+fn apply<M: Model>(
     model: &M,
     some: bool,
-    right: &StateSet,
-    pass: &StateSet,
-    left: &StateSet,
+    s1: &StateSet,
+    s2: &StateSet,
+    joined: &Rounds,
+    k: u16,
     base: &mut StateSet,
-    joined: &mut Rounds,
-)
-    requires base { base.old.marks ≡ replicate 4096 true }
-    requires joined { joined.old.rounds ≡ replicate 4096 0 }
-    ensures { Returning (M.meaning model.now) some right.now pass.now left.now joined.new }
+) -> bool
+    ensures { Applied (M.meaning model.now).states (step_f (M.meaning model.now) some s1.now s2.now (before joined.now k)) base.old base.new result }
 {
-    let n = model.states();
-    for j in 0..n + 2 {
-        if !apply(model, some, right, left, joined, n + 1, base) {
-            return;
-        }
-        *joined = least(model, some, base, pass);
-    }
+    let next = StateSet::such_that(model, |s| in_f(model, some, s, s1, s2, joined, k));
+    let changed = (0..model.states()).any(|s| next.has(s) != base.has(s));
+    *base = next;
+    changed
 }
 
 /// The states from which some walk, or every walk, keeps to `pass` or `left` until `right` is seen, and has `left`, or
@@ -44,10 +40,33 @@ pub fn returning<M: Model>(
 ) -> Rounds
     ensures { Returning (M.meaning model.now) some right.now pass.now left.now result }
 {
+    let n = model.states();
     let mut base = StateSet::of(true);
     let mut joined = Rounds::of(0);
-    repeat(model, some, right, pass, left, &mut base, &mut joined);
+    // Not by `fill`: a round makes `base`, then `joined`, and may end between the two.
+    for j in 0..n + 2 {
+        if !apply(model, some, right, left, &joined, n + 1, &mut base) {
+            return joined;
+        }
+        joined = least(model, some, &base, pass);
+    }
     joined
+}
+
+/// The first `n` states that have not left join in round `k`. Did any?
+fn merge(n: u16, left: &Rounds, k: u16, joined: &mut Rounds) -> bool
+    requires { (n ≤ 4096) × (k < 65535) }
+    ensures { Round n (λ _ s. not (before left.now (n + 1) s)) k joined.old joined.new result }
+{
+    let mut grew = false;
+    // By index, as `grow`: the rounds change in place. Not one loop with it, since what `grow` asks reads these rounds.
+    for s in 0..n as usize {
+        if joined.at[s] == NEVER && left.at[s] > n {
+            joined.at[s] = k;
+            grew = true;
+        }
+    }
+    grew
 }
 
 /// Outer round `k` of `remaining`. Did a state join?
@@ -58,35 +77,14 @@ fn settle<M: Model>(
     pass: &StateSet,
     left: &StateSet,
     k: u16,
-    base: &mut StateSet,
     joined: &mut Rounds,
 ) -> bool
     requires round { k < 65535 }
     ensures { Round (M.meaning model.now).states (remained (M.meaning model.now) some right.now pass.now left.now) k joined.old joined.new result }
 {
-    let _changed = apply(model, some, right, pass, joined, k, base);
-    let gone = greatest(model, some, base, left);
+    let base = StateSet::such_that(model, |s| in_f(model, some, s, right, pass, joined, k));
+    let gone = greatest(model, some, &base, left);
     merge(model.states(), &gone, k, joined)
-}
-
-/// As `remaining`, where no state has joined yet.
-fn extend<M: Model>(
-    model: &M,
-    some: bool,
-    right: &StateSet,
-    pass: &StateSet,
-    left: &StateSet,
-    base: &mut StateSet,
-    joined: &mut Rounds,
-)
-    requires joined { joined.old.rounds ≡ replicate 4096 65535 }
-    ensures { Joins (M.meaning model.now).states (remained (M.meaning model.now) some right.now pass.now left.now) joined.new (suc (M.meaning model.now).states) }
-{
-    for k in 0..model.states() + 1 {
-        if !settle(model, some, right, pass, left, k, base, joined) {
-            return;
-        }
-    }
 }
 
 /// The states from which some walk, or every walk, keeps so, and has `left`, or has seen `right`, from some position
@@ -100,8 +98,11 @@ pub fn remaining<M: Model>(
 ) -> Rounds
     ensures { Joins (M.meaning model.now).states (remained (M.meaning model.now) some right.now pass.now left.now) result (suc (M.meaning model.now).states) }
 {
-    let mut base = StateSet::of(false);
     let mut joined = Rounds::of(NEVER);
-    extend(model, some, right, pass, left, &mut base, &mut joined);
+    fill(
+        model,
+        &mut joined,
+        |k, joined| settle(model, some, right, pass, left, k, joined),
+    );
     joined
 }

@@ -1,22 +1,28 @@
 //! The round in which each state joins a growing set.
 ghost use Rattle.std.specs.Prelude.{◌≡◌, replicate};
+ghost use Rattle.engine.specs.Marks.{round_of};
+
+use crate::per_state::PerState;
 
 /// The round of a state that never joins.
+// Not an `Option`: `NEVER` is above every round, `None` would be below.
 pub const NEVER: u16 = 65535;
 
 /// For each state the round in which it joined, or that it never did.
-#[derive(Clone, Copy)]
-pub struct Rounds {
-    pub(crate) rounds: [u16; 4096],
-}
+pub type Rounds = PerState<u16>;
 
 impl Rounds {
     /// Every state in this round.
     pub fn of(round: u16) -> Rounds
-        ensures { result.rounds ≡ replicate 4096 round }
+        ensures { result.at ≡ replicate 4096 round }
     {
-        Rounds {
-            rounds: [round; 4096],
-        }
+        PerState::everywhere(round)
+    }
+
+    /// The round in which the state joined, 0 for a number that no state can have.
+    pub(crate) fn round(&self, s: u16) -> u16
+        ensures { result ≡ round_of self.now s }
+    {
+        self.at_or(s, 0)
     }
 }

@@ -1,18 +1,20 @@
 //! The search for one endless walk: where there is one, and a walk in writing.
 ghost use Rattle.std.specs.Prelude.{◌≡◌, ℕ, ◌<◌, ◌≤◌, length, MatchOption, ◌≢◌, slice_index};
 ghost use Rattle.model.specs.Walkable.{HasStep, Total};
-ghost use Rattle.logic.specs.Searches.{task, sought, Guides, Followed};
+ghost use Rattle.logic.specs.Searches.{sought, Guides, Followed};
 ghost use Rattle.engine.specs.Lassos.{Written, Searched, endless};
-ghost use Rattle.engine.specs.Marks.{members, round_of};
+ghost use Rattle.engine.specs.Marks.{round_of};
 ghost use Rattle.engine.specs.Satisfied.{asked};
 ghost use Rattle.engine.specs.Seeking.{Goes, found_by};
+ghost use Rattle.engine.specs.Shown.{carried};
 
 use crate::operator::Operator;
 use crate::passing::{remaining, returning};
-use crate::rounds::{NEVER, Rounds};
+use crate::rounds::Rounds;
 use crate::satisfy::join_first;
-use crate::sets::StateSet;
 use crate::steps::steps_into;
+use crate::successors::Successors;
+use crate::tasks::Task;
 use model::interface::Model;
 
 /// The step of `s` to a state of the least round.
@@ -20,16 +22,13 @@ fn least_step<M: Model>(model: &M, s: u16, rank: &Rounds) -> u16
     requires { HasStep (M.meaning model.now) s }
     ensures { Goes (M.meaning model.now) (round_of rank.now) s result }
 {
-    let Some(first) = model.least_step(s, 0) else {
+    let Some(mut best) = model.least_step(s, 0) else {
         unreachable()
     };
-    let mut best = first;
-    let mut t = first + 1;
-    while let Some(u) = model.least_step(s, t) {
-        if rank.rounds[u as usize] < rank.rounds[best as usize] {
+    for u in Successors::of(model, s) {
+        if rank.round(u) < rank.round(best) {
             best = u;
         }
-        t = u + 1;
     }
     best
 }
@@ -39,12 +38,8 @@ fn place_of(out: &[u16], i: u16, t: u16) -> Option<u16>
     requires { i ≤ length out.now }
     ensures { MatchOption result ((k : ℕ) → k < i → slice_index out.now k ≢ t) (λ p. (p < i) × (slice_index out.now p ≡ t)) }
 {
-    for p in 0..i {
-        if out[p as usize] == t {
-            return Some(p);
-        }
-    }
-    None
+    let p = out[..i as usize].iter().position(|x| *x == t)?;
+    Some(p as u16)
 }
 
 /// Writes the walk from `s` that always goes to a least round: the lengths of its stem and of its loop.
@@ -57,6 +52,7 @@ fn lasso<M: Model>(model: &M, s: u16, rank: &Rounds, out: &mut [u16]) -> (u16, u
 {
     let n = model.states();
     let mut t = s;
+    // By index: a place is written only once the walk has come there, and the places before it are read.
     for i in 0..n {
         if let Some(p) = place_of(out, i, t) {
             return (p, i - p);
@@ -71,25 +67,16 @@ fn lasso<M: Model>(model: &M, s: u16, rank: &Rounds, out: &mut [u16]) -> (u16, u
 }
 
 /// The rounds that guide the walk to be found.
-fn seek<M: Model>(
-    model: &M,
-    operator: Operator,
-    a: &StateSet,
-    b: &StateSet,
-    c: &StateSet,
-    settles: bool,
-) -> Rounds
-    ensures guides { Guides (M.meaning model.now) (asked operator) (task (members a.now) (members b.now) (members c.now) settles) (round_of result) }
-    ensures find { (s : ℕ) → s < (M.meaning model.now).states → found_by (M.meaning model.now) (asked operator) result s ≡ sought (M.meaning model.now) (asked operator) (task (members a.now) (members b.now) (members c.now) settles) s }
+fn seek<M: Model>(model: &M, operator: Operator, task: &Task) -> Rounds
+    ensures guides { Guides (M.meaning model.now) (asked operator) (carried task.now) (round_of result) }
+    ensures find { (s : ℕ) → s < (M.meaning model.now).states → found_by (M.meaning model.now) (asked operator) result s ≡ sought (M.meaning model.now) (asked operator) (carried task.now) s }
 {
     if let Operator::Next = operator {
-        let mut joined = Rounds::of(NEVER);
-        join_first(model.states(), a, &mut joined);
-        joined
-    } else if settles {
-        remaining(model, true, a, b, c)
+        join_first(model, &task.a)
+    } else if task.settles {
+        remaining(model, true, &task.a, &task.b, &task.c)
     } else {
-        returning(model, true, a, b, c)
+        returning(model, true, &task.a, &task.b, &task.c)
     }
 }
 
@@ -101,29 +88,25 @@ fn finds<M: Model>(model: &M, operator: Operator, rounds: &Rounds, s: u16) -> bo
     if let Operator::Next = operator {
         steps_into(model, true, s, rounds, 1)
     } else {
-        rounds.rounds[s as usize] <= model.states()
+        rounds.at[s as usize] <= model.states()
     }
 }
 
-/// A walk from `s` that keeps to `b` or `c` until `a` is seen, and has `c`, or has seen `a`, again and again, or from
-/// some position on where it is to settle; for X a walk with `a` next. Writes its stem and its loop, and answers their
-/// lengths, where there is such a walk.
+/// A walk from `s` that does the task; for X, a walk whose next state is in the task's `a`. Writes its stem and its loop, and
+/// answers their lengths, where there is such a walk.
 pub fn search<M: Model>(
     model: &M,
     operator: Operator,
-    a: &StateSet,
-    b: &StateSet,
-    c: &StateSet,
-    settles: bool,
+    task: &Task,
     s: u16,
     out: &mut [u16],
 ) -> Option<(u16, u16)>
     requires inside { s < (M.meaning model.now).states }
     requires total { Total (M.meaning model.now) }
     requires room { (M.meaning model.now).states ≤ length out.old }
-    ensures { Searched (M.meaning model.now) (asked operator) (task (members a.now) (members b.now) (members c.now) settles) s out.old out.new result }
+    ensures { Searched (M.meaning model.now) (asked operator) (carried task.now) s out.old out.new result }
 {
-    let rounds = seek(model, operator, a, b, c, settles);
+    let rounds = seek(model, operator, task);
     if finds(model, operator, &rounds, s) {
         Some(lasso(model, s, &rounds, out))
     } else {

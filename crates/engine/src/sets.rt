@@ -1,35 +1,42 @@
 //! Sets of states.
-ghost use Rattle.std.specs.Prelude.{◌≡◌, ℕ, Bool, true, false, set, replicate, slice_set};
+ghost use Rattle.std.specs.Prelude.{◌≡◌, ℕ, ◌<◌, Bool, true, false, set, replicate, slice_set};
 ghost use Rattle.engine.specs.Marks.{members};
 
+use crate::per_state::PerState;
+use model::interface::Model;
+
 /// A set of states, of which a model has at most 4,096.
-#[derive(Clone, Copy)]
-pub struct StateSet {
-    pub(crate) marks: [bool; 4096],
-}
+pub type StateSet = PerState<bool>;
 
 impl StateSet {
+    // Beside `Rounds::of`: each says what its value means; the body that they share is `everywhere`.
     /// The set of no state, or of all.
     pub fn of(all: bool) -> StateSet
-        ensures { result.marks ≡ replicate 4096 all }
+        ensures { result.at ≡ replicate 4096 all }
     {
-        StateSet { marks: [all; 4096] }
+        PerState::everywhere(all)
+    }
+
+    /// The states of the model that have what the rule asks.
+    pub(crate) fn such_that<M: Model, F: Fn(u16) -> bool>(model: &M, rule: F) -> StateSet
+        requires { (s : ℕ) → s < (M.meaning model.now).states → s < 4096 → F.pre rule s }
+        ensures { (s : ℕ) → s < (M.meaning model.now).states → F.post rule s (members result s) }
+    {
+        StateSet::by(model.states(), false, rule)
     }
 
     /// Is the state in the set?
     pub fn has(&self, s: u16) -> bool
         ensures { result ≡ members self.now s }
     {
-        let marks: &[bool] = &self.marks;
-        let i = s as usize;
-        if i < marks.len() { marks[i] } else { false }
+        self.at_or(s, false)
     }
 
     /// Puts the state into the set, or takes it out. A number that no state can have changes nothing.
     pub fn put(&mut self, s: u16, member: bool)
-        ensures { self.new.marks ≡ slice_set self.old.marks s member }
+        ensures { self.new.at ≡ slice_set self.old.at s member }
     {
-        let marks: &mut [bool] = &mut self.marks;
+        let marks: &mut [bool] = &mut self.at;
         let i = s as usize;
         if i < marks.len() {
             marks[i] = member;

@@ -5,20 +5,15 @@ ghost use Rattle.logic.specs.FixedPoints.{pre, F, G};
 
 use crate::rounds::Rounds;
 use crate::sets::StateSet;
+use crate::successors::Successors;
 use model::interface::Model;
 
 /// Does some step of `s`, or does every step, lead to a state that joined before round `k`?
 pub fn steps_into<M: Model>(model: &M, some: bool, s: u16, joined: &Rounds, k: u16) -> bool
     ensures { result ≡ pre (M.meaning model.now) (ours some) (before joined.now k) s }
 {
-    let mut t: u16 = 0;
-    while let Some(u) = model.least_step(s, t) {
-        if (joined.rounds[u as usize] < k) == some {
-            return some;
-        }
-        t = u + 1;
-    }
-    !some
+    // The quantifier is a bool: it is compared with what a step shows, and `!` turns it for the other side.
+    Successors::of(model, s).any(|u| (joined.round(u) < k) == some) == some
 }
 
 /// Is `s` in F (S1, S2, T), where T are the states that joined before round `k`?

@@ -7,8 +7,8 @@ pub mod choosing;
 /// settle, from some position on.
 #[derive(Clone, Copy)]
 pub struct Task {
-    pub(crate) a: StateSet,
-    pub(crate) b: StateSet,
-    pub(crate) c: StateSet,
-    pub(crate) settles: bool,
+    pub a: StateSet,
+    pub b: StateSet,
+    pub c: StateSet,
+    pub settles: bool,
 }

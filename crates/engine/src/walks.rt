@@ -5,9 +5,9 @@ ghost use Rattle.engine.specs.Marks.{members};
 ghost use Rattle.engine.specs.Satisfied.{asked, quantifier};
 ghost use Rattle.engine.specs.Shown.{ShownBy};
 
+use crate::operands::Operands;
 use crate::operator::Operator;
 use crate::search::search;
-use crate::sets::StateSet;
 use crate::tasks::choosing::task_of;
 use model::interface::Model;
 use scale::reading::Reading;
@@ -19,25 +19,15 @@ pub fn show<M: Model>(
     some: bool,
     operator: Operator,
     reading: Reading,
-    left: &StateSet,
-    right: &StateSet,
+    operands: Operands,
     s: u16,
     out: &mut [u16],
 ) -> Option<(u16, u16)>
     requires inside { s < (M.meaning model.now).states }
     requires total { Total (M.meaning model.now) }
     requires room { (M.meaning model.now).states ≤ length out.old }
-    ensures { ShownBy (M.meaning model.now) (quantifier some) (asked operator) reading (members left.now) (members right.now) s out.old out.new result }
+    ensures { ShownBy (M.meaning model.now) (quantifier some) (asked operator) reading (members operands.entry.left.now) (members operands.entry.right.now) s out.old out.new result }
 {
-    let task = task_of(model.states(), some, operator, reading, left, right);
-    search(
-        model,
-        operator,
-        &task.a,
-        &task.b,
-        &task.c,
-        task.settles,
-        s,
-        out,
-    )
+    let task = task_of(model, some, operator, reading, operands);
+    search(model, operator, &task, s, out)
 }

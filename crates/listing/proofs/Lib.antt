@@ -1,3 +1,2 @@
 pub mod Puts
-pub mod Entering
 pub mod Language

@@ -9,7 +9,6 @@ use Rattle.listing.specs.Faults.{Telling, telling, placed, told}
 use Rattle.listing.specs.Runs.{then, answers_of}
 use Rattle.listing.specs.Writing.{degree_lines, fault_line}
 use Rattle.listing.specs.declared.fault.TextFault.{TextFault}
-use Rattle.text.specs.Kept.{items_of}
 
 -- a scale's levels, and the answers on that scale
 pub record Given : Type 0 where
@@ -17,7 +16,7 @@ pub record Given : Type 0 where
   pub list : List Answer
 
 abbrev pub given_in : Result Answers TextFault → Result Given Telling
-given_in (Ok a) = Ok (record { levels = a.levels; list = items_of a.list })
+given_in (Ok a) = Ok (record { levels = a.levels; list = a.list.items })
 given_in (Err e) = Err (told e)
 
 abbrev pub script_in : Result Script TextFault → Result Told Telling
@@ -39,6 +38,11 @@ answers_to text =
 abbrev pub lines_of : Result Given Telling → List ℕ × ℕ
 lines_of (Ok a) = (degree_lines a.levels 0 a.list, 0)
 lines_of (Err t) = (fault_line t, t.number)
+
+-- the number of a fault, or 0
+abbrev pub number_in : Result Unit TextFault → ℕ
+number_in (Ok _) = 0
+number_in (Err e) = (told e).number
 
 -- the call on a text and a buffer: bytes written, the refusal's number or 0, and what the buffer then holds
 abbrev pub listing : List ℕ → List ℕ → ℕ × ℕ × List ℕ

@@ -10,16 +10,16 @@ use crate::answers::{Answer, Answers};
 use crate::asking::run;
 use crate::fault::TextFault;
 use crate::place::place_of;
+use arrayvec::ArrayVec;
 use model::interface::Model;
 use model::pool::Pool;
-use model::table::Table;
 use scale::scales::{Boolean, FiveValued};
 use text::fault::ReadFault;
-use text::kept::Kept;
 use text::read::read;
 use text::script::{Body, Script, Source};
 
 /// The reader's fault, at its line and column.
+// Not a `From`: the place needs the text as well.
 fn at_place(text: &[u8], fault: ReadFault) -> TextFault
     requires { length text.now ≤ 16384 }
     ensures { told result ≡ placed text.now fault }
@@ -36,14 +36,12 @@ fn script(text: &[u8]) -> Result<Script, TextFault>
     requires { length text.now ≤ 16384 }
     ensures { script_in result ≡ script_of text.now (answer_of (script_at text.now)) }
 {
-    match read(text) {
-        Ok(script) => Ok(script),
-        Err(fault) => Err(at_place(text, fault)),
-    }
+    read(text).map_err(|fault| at_place(text, fault))
 }
 
 /// Answers the asks of a script over a model, on the scale with so many levels.
-fn on_scale<M: Model>(model: &M, levels: u8, body: &Body) -> Result<Kept<Answer, 8>, TextFault>
+// Not an enum: the number counts the scale's levels, and `digits` takes it so; each scale is a type of its own.
+fn on_scale<M: Model>(model: &M, levels: u8, body: &Body) -> Result<ArrayVec<Answer, 8>, TextFault>
     ensures { listed result ≡ ask_all (M.meaning model.now) (grades_of levels) (said_in body.now) }
 {
     if levels == 1 {
@@ -54,17 +52,12 @@ fn on_scale<M: Model>(model: &M, levels: u8, body: &Body) -> Result<Kept<Answer,
 }
 
 /// Answers the asks of a script.
-fn ask(script: &Script) -> Result<Kept<Answer, 8>, TextFault>
+fn ask(script: &Script) -> Result<ArrayVec<Answer, 8>, TextFault>
     ensures { listed result ≡ answers_of (told_in script.now) }
 {
     match script.source {
         Source::Table(states, props) => {
-            let table = Table {
-                states,
-                props,
-                steps: script.body.steps.list(),
-                holdings: script.body.holdings.list(),
-            };
+            let table = script.body.table(states, props);
             on_scale(&table, script.levels, &script.body)
         }
         Source::Pool(buffers, guard) => {

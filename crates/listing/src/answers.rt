@@ -1,8 +1,8 @@
 //! The degrees that a text asks for.
-use text::kept::Kept;
+use arrayvec::ArrayVec;
 
 /// The degree of an ask's formula at its state.
-#[derive(Clone, Copy, PartialEq, Eq, Debug)]
+#[derive(Clone, Copy, PartialEq, Eq, Debug, Default)]
 pub struct Answer {
     pub state: u16,
     pub degree: u8,
@@ -12,5 +12,5 @@ pub struct Answer {
 #[derive(Drop)]
 pub struct Answers {
     pub levels: u8,
-    pub list: Kept<Answer, 8>,
+    pub list: ArrayVec<Answer, 8>,
 }

@@ -1,30 +1,83 @@
 //! Asks of a script, on a sheet.
 ghost use Rattle.std.specs.Prelude.{◌≡◌, ℕ, ◌+◌, ◌≤◌, List, [], length};
 ghost use Rattle.std.specs.List.{between};
-ghost use Rattle.sheet.specs.States.{seen};
-ghost use Rattle.text.specs.Kept.{items_of};
 ghost use Rattle.text.specs.Scripts.{said_in};
-ghost use Rattle.listing.specs.Faults.{answer};
-ghost use Rattle.listing.specs.Runs.{told_at, enter_all, ask_one, ask_from, ask_all};
-ghost use Rattle.listing.specs.Sheets.{entered, asked, asked_at, lined, listed};
+ghost use Rattle.listing.specs.Runs.{enter_all, ask_one, ask_from, ask_all};
+ghost use Rattle.listing.specs.Sheets.{state, entered, asked, listed};
 
 use crate::answers::Answer;
 use crate::fault::{AtLine, TextFault};
+use arrayvec::ArrayVec;
 use model::interface::Model;
 use scale::scales::Scale;
 use sheet::fault::SheetFault;
 use sheet::row::Row;
 use sheet::sheet::Sheet;
-use text::kept::Kept;
 use text::script::{Ask, Body};
 
-/// An answer of the sheet, with the line to which a refusal belongs.
-fn at_line<T>(answer: Result<T, SheetFault>, line: usize) -> Result<T, AtLine>
-    ensures { result ≡ lined line answer }
-{
-    match answer {
-        Ok(x) => Ok(x),
-        Err(fault) => Err(AtLine { line, fault }),
+/// A sheet, the model and the scale that it is over, and its buffers.
+#[derive(Drop)]
+struct Desk<'a, M, S> {
+    model: &'a M,
+    scale: &'a S,
+    sheet: Sheet,
+    records: [Row; 32],
+    bytes: [u8; 16384],
+}
+
+impl<'a, M: Model, S: Scale> Desk<'a, M, S> {
+    /// Enters rows one after another.
+    fn enter_all(&mut self, rows: &[Row]) -> Result<(), SheetFault>
+        ensures enters { entered result (state self.new) ≡ enter_all (M.meaning self.old.model.now) (S.grades self.old.scale.now) (state self.old) rows.now }
+        ensures keeps { (self.new.model.now ≡ self.old.model.now) × (self.new.scale.now ≡ self.old.scale.now) }
+    {
+        for row in rows {
+            self.sheet.enter(
+                self.model,
+                self.scale,
+                &mut self.records,
+                &mut self.bytes,
+                *row,
+            )?;
+        }
+        Ok(())
+    }
+
+    /// Enters the rows of an ask and reads its degree.
+    fn ask_one(&mut self, rows: &[Row], ask: Ask) -> Result<Answer, SheetFault>
+        ensures asks { asked result (state self.new) ≡ ask_one (M.meaning self.old.model.now) (S.grades self.old.scale.now) (state self.old) rows.now ask }
+        ensures keeps { (self.new.model.now ≡ self.old.model.now) × (self.new.scale.now ≡ self.old.scale.now) }
+    {
+        self.enter_all(rows)?;
+        let degree = self.sheet.degree(&self.bytes, ask.row, ask.state)?;
+        Ok(Answer {
+            state: ask.state,
+            degree,
+        })
+    }
+
+    /// Answers the asks of a script, one after another, on a sheet without rows.
+    fn ask_all(
+        &mut self,
+        rows: &[Row],
+        asks: &[Ask],
+        first: usize,
+    ) -> Result<ArrayVec<Answer, 8>, TextFault>
+        requires { (first ≤ 4096) × (length asks.now ≤ 8) }
+        ensures { listed result ≡ ask_from (M.meaning self.old.model.now) (S.grades self.old.scale.now) rows.now (state self.old) 0 first [] asks.now }
+    {
+        let mut done = ArrayVec::new();
+        let mut entered = 0;
+        for (i, ask) in asks.iter().enumerate() {
+            let line = first + i;
+            let upto = ask.row as usize + 1;
+            let answer = self
+                .ask_one(part(rows, entered, upto), *ask)
+                .map_err(|fault| AtLine { line, fault })?;
+            done.push(answer);
+            entered = upto;
+        }
+        Ok(done)
     }
 }
 
@@ -33,99 +86,7 @@ fn part(rows: &[Row], from: usize, to: usize) -> &[Row]
     ensures { result.now ≡ between from to rows.now }
 {
     let end = to.min(rows.len());
-    if from >= end {
-        return &rows[0..0];
-    }
-    &rows[from..end]
-}
-
-/// Enters rows one after another.
-fn enter_all<M: Model, S: Scale>(
-    sheet: &mut Sheet,
-    model: &M,
-    scale: &S,
-    records: &mut [Row],
-    bytes: &mut [u8],
-    rows: &[Row],
-) -> Result<(), SheetFault>
-    ensures { entered result (seen sheet.new records.new bytes.new) ≡ enter_all (M.meaning model.now) (S.grades scale.now) (seen sheet.old records.old bytes.old) rows.now }
-{
-    for row in rows {
-        sheet.enter(model, scale, records, bytes, *row)?;
-    }
-    Ok(())
-}
-
-/// Enters the rows of an ask and reads its degree.
-fn ask_one<M: Model, S: Scale>(
-    sheet: &mut Sheet,
-    model: &M,
-    scale: &S,
-    records: &mut [Row],
-    bytes: &mut [u8],
-    rows: &[Row],
-    ask: Ask,
-) -> Result<Answer, SheetFault>
-    ensures { asked result (seen sheet.new records.new bytes.new) ≡ ask_one (M.meaning model.now) (S.grades scale.now) (seen sheet.old records.old bytes.old) rows.now ask }
-{
-    enter_all(sheet, model, scale, records, bytes, rows)?;
-    let degree = sheet.degree(bytes, ask.row, ask.state)?;
-    Ok(Answer {
-        state: ask.state,
-        degree,
-    })
-}
-
-/// Answers the ask of a line, after so many of the rows have been entered.
-fn ask_next<M: Model, S: Scale>(
-    sheet: &mut Sheet,
-    model: &M,
-    scale: &S,
-    records: &mut [Row],
-    bytes: &mut [u8],
-    rows: &[Row],
-    entered: usize,
-    ask: Ask,
-    line: usize,
-) -> Result<Answer, AtLine>
-    ensures { asked_at result (seen sheet.new records.new bytes.new) ≡ told_at line (ask_one (M.meaning model.now) (S.grades scale.now) (seen sheet.old records.old bytes.old) (between entered (ask.row + 1) rows.now) ask) }
-{
-    let rows = part(rows, entered, ask.row as usize + 1);
-    at_line(
-        ask_one(sheet, model, scale, records, bytes, rows, ask),
-        line,
-    )
-}
-
-/// Answers the asks of a script, one after another, on a sheet without rows.
-fn ask_all<M: Model, S: Scale>(
-    sheet: &mut Sheet,
-    model: &M,
-    scale: &S,
-    records: &mut [Row],
-    bytes: &mut [u8],
-    rows: &[Row],
-    asks: &[Ask],
-    first: usize,
-) -> Result<Kept<Answer, 8>, TextFault>
-    requires { (first ≤ 4096) × (length asks.now ≤ 8) }
-    ensures { listed result ≡ ask_from (M.meaning model.now) (S.grades scale.now) rows.now (seen sheet.old records.old bytes.old) 0 first [] asks.now }
-{
-    let mut done = Kept::new(Answer {
-        state: 0,
-        degree: 0,
-    });
-    let mut entered = 0;
-    let mut line = first;
-    for ask in asks {
-        let answer = ask_next(
-            sheet, model, scale, records, bytes, rows, entered, *ask, line,
-        )?;
-        done.push(answer);
-        entered = ask.row as usize + 1;
-        line += 1;
-    }
-    Ok(done)
+    &rows[from.min(end)..end]
 }
 
 /// Opens a sheet over a model and a scale, in buffers of its own, and answers the asks of a script.
@@ -133,25 +94,22 @@ pub(crate) fn run<M: Model, S: Scale>(
     model: &M,
     scale: &S,
     body: &Body,
-) -> Result<Kept<Answer, 8>, TextFault>
+) -> Result<ArrayVec<Answer, 8>, TextFault>
     ensures { listed result ≡ ask_all (M.meaning model.now) (S.grades scale.now) (said_in body.now) }
 {
-    let mut sheet = at_line(Sheet::open(model, scale), 2)?;
-    let mut records = [Row {
-        kind: 0,
-        a: 0,
-        b: 0,
-    }; 32];
-    let mut bytes = [0u8; 16384];
-    let first = 3 + body.steps.len() + body.holdings.len();
-    ask_all(
-        &mut sheet,
+    let sheet = Sheet::open(model, scale).map_err(|fault| AtLine { line: 2, fault })?;
+    let mut desk = Desk {
         model,
         scale,
-        &mut records,
-        &mut bytes,
-        body.rows.list(),
-        body.asks.list(),
-        first,
-    )
+        sheet,
+        // Zeros in sight, as the definition of a run has them.
+        records: [Row {
+            kind: 0,
+            a: 0,
+            b: 0,
+        }; 32],
+        bytes: [0; 16384],
+    };
+    let first = 3 + body.steps.len() + body.holdings.len();
+    desk.ask_all(body.rows.as_slice(), body.asks.as_slice(), first)
 }

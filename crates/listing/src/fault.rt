@@ -65,9 +65,7 @@ impl TextFault {
     {
         match self {
             TextFault::Buffer | TextFault::Long => Place { line: 1, column: 1 },
-            TextFault::Form(place) => place,
-            TextFault::Range(place) => place,
-            TextFault::Many(place) => place,
+            TextFault::Form(place) | TextFault::Range(place) | TextFault::Many(place) => place,
             TextFault::Sheet(line, _) => Place { line, column: 1 },
         }
     }

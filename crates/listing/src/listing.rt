@@ -1,34 +1,46 @@
 //! The listing call.
 ghost use Rattle.std.specs.Prelude.{◌≡◌, ◌≤◌, [], length};
-ghost use Rattle.text.specs.Kept.{items_of};
 ghost use Rattle.listing.specs.Laws.{ListedByLanguage};
-ghost use Rattle.listing.specs.Listings.{listing, lines_of, answers_to};
+ghost use Rattle.listing.specs.Listings.{listing, lines_of, answers_to, number_in};
 
 use crate::answering::answers;
 use crate::fault::TextFault;
 use crate::writing::{copy, degree_lines, fault_line};
-use text::kept::Kept;
+use arrayvec::ArrayString;
 
 /// What the listing call answers: how many bytes it wrote, and the number of the refusal, 0 for none.
+// Not a `Result`: a refusal writes a line as well, so both have a count of bytes, and a script compares the number.
 #[derive(Clone, Copy, PartialEq, Eq, Debug)]
 pub struct Listed {
     pub written: usize,
     pub number: u8,
 }
 
-/// Writes the listing of a text, and gives the number of its refusal, 0 for none.
-fn write_lines(text: &[u8], out: &mut Kept<u8, 256>) -> u8
-    requires { items_of out.old ≡ [] }
-    ensures { (items_of out.new, result) ≡ lines_of (answers_to text.now) }
+impl Listed {
+    /// So many bytes written, with or without a fault.
+    fn of(written: usize, outcome: Result<(), TextFault>) -> Listed
+        ensures { (result.written ≡ written) × (result.number ≡ number_in outcome) }
+    {
+        Listed {
+            written,
+            number: outcome.err().map_or(0, TextFault::number),
+        }
+    }
+}
+
+/// Writes the listing of a text: its degrees, or its fault.
+fn write_lines(text: &[u8], out: &mut ArrayString<256>) -> Result<(), TextFault>
+    requires { out.old.bytes ≡ [] }
+    ensures { (out.new.bytes, number_in result) ≡ lines_of (answers_to text.now) }
 {
     match answers(text) {
         Ok(answers) => {
             degree_lines(out, &answers);
-            0
+            Ok(())
         }
         Err(fault) => {
             fault_line(out, fault);
-            fault.number()
+            Err(fault)
         }
     }
 }
@@ -39,18 +51,12 @@ fn list_into(text: &[u8], buffer: &mut [u8]) -> Listed
     ensures exact { (result.written, result.number, buffer.new) ≡ listing text.now buffer.old }
 {
     if buffer.len() < 256 {
-        return Listed {
-            written: 0,
-            number: TextFault::Buffer.number(),
-        };
+        return Listed::of(0, Err(TextFault::Buffer));
     }
-    let mut out = Kept::new(0);
-    let number = write_lines(text, &mut out);
-    copy(buffer, out.list());
-    Listed {
-        written: out.len(),
-        number,
-    }
+    let mut out = ArrayString::new();
+    let outcome = write_lines(text, &mut out);
+    copy(buffer, out.as_str().as_bytes());
+    Listed::of(out.len(), outcome)
 }
 
 /// Lists the degrees that a text asks for, or its fault, at the front of a buffer; what follows stays as it is.

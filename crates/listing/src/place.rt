@@ -9,6 +9,7 @@ fn place_after(text: &[u8]) -> Place
     requires { length text.now ≤ 16384 }
     ensures { (result.line, result.column) ≡ place_after text.now }
 {
+    // Both are counted in one pass; a chain for each would go over the text twice.
     let mut line = 1;
     let mut column = 1;
     for b in text {

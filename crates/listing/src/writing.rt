@@ -1,117 +1,97 @@
 //! Degrees and faults in bytes.
-ghost use Rattle.std.specs.Prelude.{◌≡◌, ℕ, ◌+◌, ◌<◌, ◌≤◌, [], ◌∷◌, ◌++◌, length, drop, decimal};
-ghost use Rattle.text.specs.Kept.{items_of};
+ghost use Rattle.std.specs.Prelude.{◌≡◌, ◌+◌, ◌<◌, ◌≤◌, [], ◌++◌, length, drop, decimal};
+ghost use Rattle.arrayvec.specs.ArrayString.{array_string_len};
 ghost use Rattle.listing.specs.Faults.{told, who};
 ghost use Rattle.scale.specs.Digits.{written};
 ghost use Rattle.listing.specs.Writing.{text_of, spaced, degree_line, degree_lines, fault_line};
 
 use crate::answers::{Answer, Answers};
 use crate::fault::TextFault;
+use arrayvec::ArrayString;
+use itoa::Buffer;
 use scale::digits::digits;
-use text::kept::Kept;
+use sheet::fault::SheetFault;
 
-/// Adds bytes.
-fn put(out: &mut Kept<u8, 256>, bytes: &[u8])
-    requires { length (items_of out.old) + length bytes.now ≤ 256 }
-    ensures added { items_of out.new ≡ items_of out.old ++ bytes.now }
-    ensures long { length (items_of out.new) ≡ length (items_of out.old) + length bytes.now }
-{
-    for b in bytes {
-        out.push(*b);
-    }
-}
-
-/// Adds a number in decimal digits.
-fn put_digits(out: &mut Kept<u8, 256>, n: usize)
-    requires { length (items_of out.old) + length (decimal n) ≤ 256 }
-    ensures { items_of out.new ≡ items_of out.old ++ decimal n }
-{
-    if n < 10 {
-        out.push(b'0' + n as u8);
-        return;
-    }
-    put_digits(out, n / 10);
-    out.push(b'0' + (n % 10) as u8);
-}
-
-/// Adds a space and a number.
-fn put_number(out: &mut Kept<u8, 256>, n: usize)
-    requires { length (items_of out.old) + length (spaced (decimal n)) ≤ 256 }
-    ensures added { items_of out.new ≡ items_of out.old ++ spaced (decimal n) }
-    ensures long { length (items_of out.new) ≡ length (items_of out.old) + length (spaced (decimal n)) }
-    ensures short { length (items_of out.new) ≤ length (items_of out.old) + 21 }
-{
-    put(out, b" ");
-    put_digits(out, n);
-}
+// `write!` answers a `Result`, and no clause says that it is `Ok` where there is room; so the parts are pushed.
 
 /// Adds a space and a text.
-fn put_text(out: &mut Kept<u8, 256>, text: &str)
-    requires { length (items_of out.old) + length (spaced text.now) ≤ 256 }
-    ensures added { items_of out.new ≡ items_of out.old ++ spaced text.now }
-    ensures long { length (items_of out.new) ≡ length (items_of out.old) + length (spaced text.now) }
+fn put_text(out: &mut ArrayString<256>, text: &str)
+    requires { array_string_len out.old + length (spaced text.now) ≤ 256 }
+    ensures added { out.new.bytes ≡ out.old.bytes ++ spaced text.now }
+    ensures long { array_string_len out.new ≡ array_string_len out.old + length (spaced text.now) }
 {
-    put(out, b" ");
-    put(out, text.as_bytes());
+    out.push_str(" ");
+    out.push_str(text);
+}
+
+/// Adds a space and a number in decimal digits.
+fn put_number(out: &mut ArrayString<256>, n: usize)
+    requires { array_string_len out.old + 21 ≤ 256 }
+    ensures added { out.new.bytes ≡ out.old.bytes ++ spaced (decimal n) }
+    ensures long { array_string_len out.new ≡ array_string_len out.old + length (spaced (decimal n)) }
+    ensures short { array_string_len out.new ≤ array_string_len out.old + 21 }
+{
+    put_text(out, Buffer::new().format(n));
 }
 
 /// The digits of a degree.
+#[tactic(auto, using(crate::proofs::Puts::digits_short))]
 fn digits_of(levels: u8, degree: u8) -> &'static str
-    ensures { result.now ≡ text_of (written levels degree) }
+    ensures text { result.now ≡ text_of (written levels degree) }
+    ensures short { length result.now ≤ 4 }
 {
-    match digits(levels, degree) {
-        Some(text) => text,
-        None => "",
-    }
+    digits(levels, degree).unwrap_or("")
 }
 
 /// Adds the line of an answer, the `i`th.
-fn degree_line(out: &mut Kept<u8, 256>, levels: u8, i: usize, answer: Answer)
-    requires { (length (items_of out.old) + 22 ≤ 256) × (i < 10) }
-    ensures added { items_of out.new ≡ items_of out.old ++ degree_line levels i answer }
-    ensures short { length (items_of out.new) ≤ length (items_of out.old) + 22 }
+#[tactic(auto, using(crate::proofs::Puts::one_figure, crate::proofs::Puts::five_figures))]
+fn degree_line(out: &mut ArrayString<256>, levels: u8, i: usize, answer: Answer)
+    requires { (array_string_len out.old + 56 ≤ 256) × (i < 10) }
+    ensures added { out.new.bytes ≡ out.old.bytes ++ degree_line levels i answer }
+    ensures short { array_string_len out.new ≤ array_string_len out.old + 22 }
 {
-    put(out, b"(degree");
+    out.push_str("(degree");
     put_number(out, i);
     put_number(out, answer.state as usize);
     put_text(out, digits_of(levels, answer.degree));
-    put(out, b")\n");
+    out.push_str(")\n");
 }
 
 /// Adds a line for each answer.
-pub(crate) fn degree_lines(out: &mut Kept<u8, 256>, answers: &Answers)
-    requires { items_of out.old ≡ [] }
-    ensures { items_of out.new ≡ degree_lines answers.now.levels 0 (items_of answers.now.list) }
+pub(crate) fn degree_lines(out: &mut ArrayString<256>, answers: &Answers)
+    requires { out.old.bytes ≡ [] }
+    ensures { out.new.bytes ≡ degree_lines answers.now.levels 0 answers.now.list.items }
 {
-    for (i, answer) in answers.list.list().iter().enumerate() {
+    for (i, answer) in answers.list.as_slice().iter().enumerate() {
         degree_line(out, answers.levels, i, *answer);
     }
 }
 
-/// Who refuses with this number.
-fn refuser(number: u8) -> &'static str
-    ensures { result.now ≡ who number }
+/// Who refuses with this fault.
+fn refuser(fault: TextFault) -> &'static str
+    ensures text { result.now ≡ who (told fault).number }
+    ensures short { length result.now ≤ 5 }
 {
-    match number {
-        0..=2 => "model",
-        3..=13 => "sheet",
+    match fault {
+        TextFault::Sheet(_, SheetFault::Model(_)) => "model",
+        TextFault::Sheet(_, _) => "sheet",
         _ => "text",
     }
 }
 
 /// Adds the line of a fault.
-pub(crate) fn fault_line(out: &mut Kept<u8, 256>, fault: TextFault)
-    requires { items_of out.old ≡ [] }
-    ensures { items_of out.new ≡ fault_line (told fault) }
+pub(crate) fn fault_line(out: &mut ArrayString<256>, fault: TextFault)
+    requires { out.old.bytes ≡ [] }
+    ensures { out.new.bytes ≡ fault_line (told fault) }
 {
     let place = fault.place();
-    put(out, b"(fault");
-    put_text(out, refuser(fault.number()));
+    out.push_str("(fault");
+    put_text(out, refuser(fault));
     put_number(out, fault.number() as usize);
     put_number(out, place.line);
     put_number(out, place.column);
     put_number(out, fault.value() as usize);
-    put(out, b")\n");
+    out.push_str(")\n");
 }
 
 /// Copies bytes to the front of a buffer.
@@ -119,7 +99,5 @@ pub(crate) fn copy(buffer: &mut [u8], bytes: &[u8])
     requires { length bytes.now ≤ length buffer.old }
     ensures { buffer.new ≡ bytes.now ++ drop (length bytes.now) buffer.old }
 {
-    for (i, b) in bytes.iter().enumerate() {
-        buffer[i] = *b;
-    }
+    buffer[..bytes.len()].copy_from_slice(bytes);
 }

@@ -77,31 +77,31 @@ all_fit = (
 -- what is computed of an entry
 test : Entry → Bool
 test e =
-    ltb e.0 (length subjects) && (ltb e.1 (subject e.0).meaning.states
-    && eqb (degree (subject e.0).meaning (subject e.0).grades (subject e.0).formula e.1) e.2)
+    ltb e.trial (length subjects) && (ltb e.state (subject e.trial).meaning.states
+    && eqb (degree (subject e.trial).meaning (subject e.trial).grades (subject e.trial).formula e.state) e.degree)
 
 passes : List Entry → Bool
 passes [] = true
 passes (e ∷ es) = test e && passes es
 
-entry_true : (e : Entry) → test e ≡ true → TrueAt (subject e.0) e.1 e.2
+entry_true : (e : Entry) → test e ≡ true → TrueAt (subject e.trial) e.state e.degree
 unfolding test
 entry_true e h =
-    let t = subject e.0 in
-    let p = and_parts (ltb e.0 (length subjects)) _ h in
-    let q = and_parts (ltb e.1 t.meaning.states) _ p.1 in
-    let ok = All-get_or Fit subjects e.0 _ (ltb-true e.0 (length subjects) p.0) all_fit in
-    let here = ltb-true e.1 t.meaning.states q.0 in
+    let t = subject e.trial in
+    let p = and_parts (ltb e.trial (length subjects)) _ h in
+    let q = and_parts (ltb e.state t.meaning.states) _ p.1 in
+    let ok = All-get_or Fit subjects e.trial _ (ltb-true e.trial (length subjects) p.0) all_fit in
+    let here = ltb-true e.state t.meaning.states q.0 in
     let truth = degree_is_truth t.meaning ok.law ok.total t.grades ok.orderly t.formula in
     record {
       state = here;
       some_truth = (degree t.meaning t.grades t.formula, truth);
       value = λ d z.
-          truth_unique t.meaning ok.law ok.total t.grades ok.orderly t.formula d (degree t.meaning t.grades t.formula) z truth e.1 here
-          ∙ eqb-true _ e.2 q.1;
+          truth_unique t.meaning ok.law ok.total t.grades ok.orderly t.formula d (degree t.meaning t.grades t.formula) z truth e.state here
+          ∙ eqb-true _ e.degree q.1;
     }
 
-all_true : (es : List Entry) → passes es ≡ true → AllByRecursion (λ e. TrueAt (subject e.0) e.1 e.2) es
+all_true : (es : List Entry) → passes es ≡ true → AllByRecursion (λ e. TrueAt (subject e.trial) e.state e.degree) es
 unfolding passes
 all_true [] h = tt
 all_true (e ∷ es) h = let p = and_parts (test e) (passes es) h in (entry_true e p.0, all_true es p.1)

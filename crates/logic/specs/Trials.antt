@@ -93,7 +93,7 @@ subject i = slice_index_or subjects i (trial staying five_valued (AG p0))
 
 -- in trial i, degree v at state s
 abbrev entry : ℕ → ℕ → ℕ → Entry
-entry i s v = record { 0 = i; 1 = s; 2 = v }
+entry i s v = record { trial = i; state = s; degree = v }
 
 abbrev pub table : List Entry
 table =
@@ -117,7 +117,7 @@ pub record TrueAt (t : Trial) (s v : ℕ) : Type 0 where
   pub value : (d : ℕ → ℕ) → Truth t.meaning t.grades t.formula d → d s ≡ v
 
 abbrev pub TableTrue : Type 0
-TableTrue = AllByRecursion (λ e. TrueAt (subject e.0) e.1 e.2) table
+TableTrue = AllByRecursion (λ e. TrueAt (subject e.trial) e.state e.degree) table
 
 -- from state 0 of the first trial some walk breaks level 4 and none breaks level 3, by the truth values d of p0
 abbrev pub BrokenAtFour : Type 0

@@ -8,36 +8,43 @@ pub fn fixed_points_found()
 {}
 
 /// The set of a path row has a state exactly where some walk from it meets the level (E), or none breaks it (A).
+#[tactic(auto, using(crate::proofs::Levels::sets_are_walks))]
 pub fn sets_are_walks()
     ensures { SetsAreWalks }
 {}
 
 /// Where the set of an A row lacks a state there is a walk from it that breaks the level.
+#[tactic(auto, using(crate::proofs::Levels::broken_by_some_walk))]
 pub fn broken_by_some_walk()
     ensures { BrokenBySomeWalk }
 {}
 
 /// A higher level's set is no larger.
+#[tactic(auto, using(crate::proofs::Levels::levels_shrink))]
 pub fn levels_shrink()
     ensures { LevelsShrink }
 {}
 
 /// A row reaches a level at a state exactly where the set of that level has the state.
+#[tactic(auto, using(crate::proofs::Rows::reaches_where_sat))]
 pub fn reaches_where_sat()
     ensures { ReachesWhereSat }
 {}
 
 /// The degree of a row by the sets is its truth value by the walks.
+#[tactic(auto, using(crate::proofs::Rows::row_degree_is_value))]
 pub fn row_degree_is_value()
     ensures { RowDegreeIsValue }
 {}
 
 /// A row has one truth value.
+#[tactic(auto, using(crate::proofs::Rows::value_unique))]
 pub fn value_unique()
     ensures { ValueUnique }
 {}
 
 /// The degree of a formula by the sets is its truth value by the walks.
+#[tactic(auto, using(crate::proofs::Values::degree_is_truth))]
 pub fn degree_is_truth()
     ensures { DegreeIsTruth }
 {}
@@ -48,11 +55,13 @@ pub fn truth_unique()
 {}
 
 /// A walk that a search's rounds guide meets or breaks the level, as the row asks.
+#[tactic(auto, using(crate::proofs::Seeking::search_finds))]
 pub fn search_finds()
     ensures { SearchFinds }
 {}
 
 /// Where a search finds nothing, no walk does.
+#[tactic(auto, using(crate::proofs::Seeking::search_misses))]
 pub fn search_misses()
     ensures { SearchMisses }
 {}

@@ -4,37 +4,43 @@ ghost use Rattle.logic.specs.Trials.{table, TableTrue, BrokenAtFour, UnbrokenAtT
 
 /// A trial's number, a state, and the truth value of the trial's formula there.
 #[derive(Clone, Copy, PartialEq, Eq, Debug)]
-pub struct Entry(pub u8, pub u16, pub u8);
+pub struct Entry {
+    pub trial: u8,
+    pub state: u16,
+    pub degree: u8,
+}
 
+// One line for each entry, so that the array reads as a table.
+#[rattlefmt::skip]
 const TABLE: [Entry; 28] = [
-    Entry(0, 0, 3),
-    Entry(0, 1, 3),
-    Entry(0, 2, 4),
-    Entry(1, 0, 4),
-    Entry(1, 1, 3),
-    Entry(1, 2, 4),
-    Entry(2, 0, 2),
-    Entry(2, 1, 2),
-    Entry(3, 0, 4),
-    Entry(3, 1, 4),
-    Entry(4, 0, 2),
-    Entry(4, 1, 2),
-    Entry(5, 0, 0),
-    Entry(5, 1, 4),
-    Entry(6, 0, 1),
-    Entry(6, 1, 1),
-    Entry(7, 0, 2),
-    Entry(7, 1, 2),
-    Entry(7, 2, 2),
-    Entry(7, 3, 2),
-    Entry(8, 0, 4),
-    Entry(8, 1, 4),
-    Entry(8, 2, 4),
-    Entry(8, 3, 3),
-    Entry(9, 0, 1),
-    Entry(9, 3, 0),
-    Entry(10, 0, 1),
-    Entry(10, 1, 0),
+    Entry { trial: 0, state: 0, degree: 3 },
+    Entry { trial: 0, state: 1, degree: 3 },
+    Entry { trial: 0, state: 2, degree: 4 },
+    Entry { trial: 1, state: 0, degree: 4 },
+    Entry { trial: 1, state: 1, degree: 3 },
+    Entry { trial: 1, state: 2, degree: 4 },
+    Entry { trial: 2, state: 0, degree: 2 },
+    Entry { trial: 2, state: 1, degree: 2 },
+    Entry { trial: 3, state: 0, degree: 4 },
+    Entry { trial: 3, state: 1, degree: 4 },
+    Entry { trial: 4, state: 0, degree: 2 },
+    Entry { trial: 4, state: 1, degree: 2 },
+    Entry { trial: 5, state: 0, degree: 0 },
+    Entry { trial: 5, state: 1, degree: 4 },
+    Entry { trial: 6, state: 0, degree: 1 },
+    Entry { trial: 6, state: 1, degree: 1 },
+    Entry { trial: 7, state: 0, degree: 2 },
+    Entry { trial: 7, state: 1, degree: 2 },
+    Entry { trial: 7, state: 2, degree: 2 },
+    Entry { trial: 7, state: 3, degree: 2 },
+    Entry { trial: 8, state: 0, degree: 4 },
+    Entry { trial: 8, state: 1, degree: 4 },
+    Entry { trial: 8, state: 2, degree: 4 },
+    Entry { trial: 8, state: 3, degree: 3 },
+    Entry { trial: 9, state: 0, degree: 1 },
+    Entry { trial: 9, state: 3, degree: 0 },
+    Entry { trial: 10, state: 0, degree: 1 },
+    Entry { trial: 10, state: 1, degree: 0 },
 ];
 
 /// The table. What its entries say is so of the truth values that the endless walks give.

@@ -1,5 +1,5 @@
 -- The base-4 digits of a number: what they are of, and what a change of one makes of it.
-use Rattle.std.proofs.Common.{◌≡◌, ℕ, zero, suc, ◌+◌, ◌*◌, ◌/◌, ◌%◌, ◌^◌, ◌<◌, ◌≤◌, sym, refl, ap, ◌∙◌, mul_assoc, mul_comm, pow-suc, arith}
+use Rattle.std.proofs.Common.{◌≡◌, ℕ, zero, suc, ◌+◌, ◌*◌, ◌/◌, ◌%◌, ◌^◌, ◌<◌, sym, refl, ap, ◌∙◌, mul_assoc, mul_comm, pow-suc, arith}
 use native.Mathlib.Nat.{div-div-eq-div-mul}
 use Rattle.model.specs.Pools.{digit}
 
@@ -60,8 +60,3 @@ changed_below (suc k) zero s u e h hs he c = let p = pow-suc 4 k in omega arith
 changed_below (suc k) (suc i) s u e h hs he c =
     let q = changed_below k i (s / 4) (u / 4) e (omega arith) (quotient_below k s hs) he (change_higher i s u e c).1 in
     let p = pow-suc 4 k in omega arith
-
-pub place_le : (i s : ℕ) → digit i s * 4 ^ i ≤ s
-place_le zero s = omega arith
-place_le (suc i) s =
-    let h = place_le i (s / 4) in rw (higher i s, scaled (digit i (s / 4)) i) (omega arith)

@@ -1,9 +1,8 @@
-pub mod Any
 pub mod Below
 pub mod Digits
 pub mod Least
 pub mod Limited
-pub mod Listed
 pub mod Paired
 pub mod Pooled
+pub mod Ranged
 pub mod Walked

@@ -5,6 +5,7 @@ use Rattle.std.proofs.lemmas.Nat.{div-add-mod', div-mul-add, mod-mul-add, div_be
 use Rattle.std.proofs.lemmas.Bool.{and_parts, and_from, or_cases, or_left, or_right, eqb-true, eq-eqb, lt-ltb, cases_lt}
 use Rattle.std.proofs.lemmas.Bool.Decides.{nat_tests}
 use Rattle.std.specs.Option.{option_map}
+use Rattle.std.proofs.lemmas.Option.{none-some, same_Some}
 use Rattle.model.specs.Lesser.{lesser_of}
 use Rattle.model.specs.Meaning.{Meaning, Lawful, Least}
 use Rattle.model.specs.Pairs.{paired, first_steps, second_steps}
@@ -43,6 +44,13 @@ module _ (t j width above from : ℕ) (lt : j < width) (up : above ≡ t - j) (r
         let m = eqb-true _ _ x.0 in let d = div-add-mod' v width in
         l.2 (v / width) (reached (v / width) (omega arith)) (lt_of_mul-lt-mul_right width (omega arith)) x.1,
   )
+
+-- a state found by its quotient is one of the pair
+pub quotient_inside : (m : Meaning) → Lawful m → (i t width j : ℕ) → j < width → m.states * width ≤ 4096 → (r : Option ℕ) → Least (m.step i) t r → (k : ℕ) → r ≡ Some k → k * width + j ≤ 4096
+quotient_inside m law i t width j lt few None l k e = absurd (none-some k e)
+quotient_inside m law i t width j lt few (Some u) l k e =
+    let here : k < m.states = omega (arith, same_Some u k e, law.steps_to i u l.1) in
+    let h = digits_lt {q = k} {m = m.states} {r = j} {c = width} here lt in omega arith
 
 -- the least state with quotient i whose remainder passes
 module _ (t i width from : ℕ) (up : from ≡ t - i * width) where

@@ -1,12 +1,11 @@
 -- The moves of the threads of a pool, by digits and by numbers.
-use Rattle.std.proofs.Common.{◌≡◌, ℕ, ◌+◌, ◌-◌, ◌*◌, ◌^◌, ◌<◌, ◌≤◌, Bool, true, cond, ◌&&◌, ◌||◌, eqb, ltb, Option, sym, ap, ◌∙◌, subst, ⊎_elim, add-one, arith}
+use Rattle.std.proofs.Common.{◌≡◌, ℕ, ◌+◌, ◌-◌, ◌*◌, ◌^◌, ◌<◌, ◌≤◌, Bool, true, cond, ◌&&◌, ◌||◌, eqb, ltb, Option, sym, ap, ◌∙◌, subst, ⊎_elim, arith}
 use native.Mathlib.Nat.{pow-le-pow_right}
 use Rattle.std.proofs.lemmas.Nat.{mul-le}
 use Rattle.std.proofs.lemmas.Bool.{and_parts, and_from, or_cases, or_left, or_right, eqb-true, eq-eqb, ltb-true, lt-ltb, cases_eq}
 use Rattle.std.proofs.lemmas.Bool.Decides.{nat_tests}
 use Rattle.model.specs.declared.pool.Thread.{Thread}
 use Rattle.model.specs.declared.pool.Thread.TheVariants.{A, B}
-use Rattle.model.specs.Below.{some}
 use Rattle.model.specs.Lesser.{lesser_of}
 use Rattle.model.specs.Meaning.{Least}
 use Rattle.model.specs.Pools.{digit, share, holder, moves, others, guarded, leads, pooled}
@@ -47,10 +46,6 @@ module _ (k g : ℕ) (x : Thread) (i s e : ℕ) (turned : e ≡ cond (holder x (
       let r = and_parts (moves x (digit i s) (digit i v)) (guarded k g i v) q.1 in
       (ltb-true v (4 ^ k) p.0, q.0, moves_one x (digit i s) (digit i v) (omega arith) r.0 ∙ sym turned, r.1)
 
-  -- with the guard it does not tear the frame
-  pub leads-guarded : (v : ℕ) → (ltb v (4 ^ k) && leads k g x i s v) ≡ true → g ≡ 1 → e ≡ 3 → ⊥
-  leads-guarded v h eg ee = let p = parts v h in let z : ◌≡◌ {A = ℕ} 0 1 = grind (arith, nat_tests) in omega arith
-
   module _ (u : ℕ) (lt : i < k) (hs : s < 4 ^ k) (made : u + digit i s * 4 ^ i ≡ s + e * 4 ^ i) where
     -- it can only lead to u
     pub leads_only : (v : ℕ) → (ltb v (4 ^ k) && leads k g x i s v) ≡ true → v ≡ u
@@ -71,13 +66,8 @@ module _ (k g : ℕ) (x : Thread) (i s e : ℕ) (turned : e ≡ cond (holder x (
         and_from _ _ (lt-ltb _ _ (changed_below k i s u e lt hs m.1 made))
         (and_from _ _ rest (and_from _ _ (subst (λ n. moves x (digit i s) n ≡ true) (sym is) m.0) (grind (arith, nat_tests))))
 
--- the moves of both threads with one buffer more
-pub buffer_more : (n i t : ℕ) (a b : ℕ → Bool) (p : ℕ → ℕ → Bool) (q ra rb : Option ℕ)
-    → Least (λ u. ltb u n && some i (λ j. p j u)) t q → Least (λ u. ltb u n && a u) t ra → Least (λ u. ltb u n && b u) t rb
-    → ((u : ℕ) → p i u ≡ (a u || b u)) → Least (λ u. ltb u n && some (i + 1) (λ j. p j u)) t (lesser_of (lesser_of q ra) rb)
-buffer_more n i t a b p q ra rb l la lb split =
-    subst (λ m. Least (λ u. ltb u n && some m (λ j. p j u)) t (lesser_of (lesser_of q ra) rb)) (sym (add-one i))
-    (least_or (λ u. ltb u n && (a u || some i (λ j. p j u))) (λ u. ltb u n && b u) _ t (lesser_of q ra) rb
-    (λ u h e. let sp = split u in grind (arith, nat_tests)) (λ u h e. let sp = split u in grind (arith, nat_tests)) (λ u h e. let sp = split u in grind (arith, nat_tests))
-    (least_or (λ u. ltb u n && some i (λ j. p j u)) (λ u. ltb u n && a u) _ t q ra
-    (λ u h e. grind (arith, nat_tests)) (λ u h e. grind (arith, nat_tests)) (λ u h e. grind (arith, nat_tests)) l la) lb)
+-- the moves of both threads with one buffer
+pub either_thread : (n t : ℕ) (a b : ℕ → Bool) (q r : Option ℕ) → Least (λ u. ltb u n && a u) t q → Least (λ u. ltb u n && b u) t r → Least (λ u. ltb u n && (a u || b u)) t (lesser_of q r)
+either_thread n t a b q r la lb =
+    least_or (λ u. ltb u n && a u) (λ u. ltb u n && b u) (λ u. ltb u n && (a u || b u)) t q r
+    (λ u h e. grind (arith, nat_tests)) (λ u h e. grind (arith, nat_tests)) (λ u h e. grind (arith, nat_tests)) la lb

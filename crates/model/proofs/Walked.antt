@@ -10,14 +10,10 @@ use Rattle.model.specs.declared.fault.ModelFault.TheVariants.{NoStates, DeadEnd}
 use Rattle.model.proofs.Below.{some_decides}
 use Rattle.model.proofs.Least.{least_one}
 
--- where a least step was found there is one, and where none was from 0 on there is none
+-- where a least step was found there is one
 pub found-step : (m : Meaning) (s t : ℕ) (r : Option ℕ) → Least (m.step s) t r → is_some r ≡ true → HasStep m s
 found-step m s t (Some u) l e = (u, l.1)
 found-step m s t None l e = absurd (both_ways false refl e)
-
-pub no_step : (m : Meaning) (s : ℕ) (r : Option ℕ) → Least (m.step s) 0 r → is_some r ≡ false → HasStep m s → ⊥
-no_step m s (Some t) l e h = both_ways true e refl
-no_step m s None l e h = l h.0 (omega arith) h.1
 
 module _ (passes : ℕ → Bool) where
   extended : (n : ℕ) (r : Option ℕ) (b : Bool) → passes n ≡ b → Least (λ s. ltb s n && passes s) 0 r → Least (λ s. ltb s (suc n) && passes s) 0 (or_else r (cond b (Some n) None))

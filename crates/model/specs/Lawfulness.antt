@@ -1,6 +1,7 @@
 -- Proofs, and no definitions to read: every meaning cut down to what exists is lawful, so tables, pools and pairs are.
 -- (They stand here since a ghost member cites specs/ alone.)
 use Rattle.std.specs.Prelude.{◌≡◌, ℕ, ◌+◌, ◌*◌, ◌^◌, ◌<◌, ◌≤◌, Bool, true, cond, ◌&&◌, ◌||◌, List, nat_le, nat_lt}
+use Rattle.std.specs.List.{list_any}
 use Rattle.std.proofs.Common.{arith}
 use Rattle.std.proofs.lemmas.Bool.{and_parts, ltb-true, leb-true, cond_both}
 use Rattle.model.specs.Below.{some}
@@ -8,7 +9,7 @@ use Rattle.model.specs.Limits.{within, kept, limited}
 use Rattle.model.specs.Meaning.{Meaning, Lawful}
 use Rattle.model.specs.Pairs.{labels, first_steps, second_steps, part_holds, paired}
 use Rattle.model.specs.Pools.{leads, lawful, shows, pooled}
-use Rattle.model.specs.Tables.{any, is_step, is_holding, listed}
+use Rattle.model.specs.Tables.{is_step, is_holding, listed}
 use Rattle.model.specs.declared.pool.Thread.TheVariants.{A, B}
 use Rattle.model.specs.declared.table.Holding.{Holding}
 use Rattle.model.specs.declared.table.Step.{Step}
@@ -34,7 +35,7 @@ limited_lawful n p steps holdings = record {
 }
 
 pub listed_lawful : (n p : ℕ) (steps : List Step) (holdings : List Holding) → Lawful (listed n p steps holdings)
-listed_lawful n p steps holdings = limited_lawful n p (λ s t. any (is_step s t) steps) (λ q s. any (is_holding q s) holdings)
+listed_lawful n p steps holdings = limited_lawful n p (λ s t. list_any (is_step s t) steps) (λ q s. list_any (is_holding q s) holdings)
 
 pub pooled_lawful : (k g : ℕ) → Lawful (pooled k g)
 pooled_lawful k g =

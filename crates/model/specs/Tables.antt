@@ -1,14 +1,10 @@
 -- What a table means: the steps and holdings that its two lists have.
-use Rattle.std.specs.Prelude.{ℕ, Bool, false, ◌&&◌, ◌||◌, List, [], ◌∷◌, ◌==◌}
+use Rattle.std.specs.Prelude.{ℕ, Bool, ◌&&◌, List, ◌==◌}
+use Rattle.std.specs.List.{list_any}
 use Rattle.model.specs.Meaning.{Meaning}
 use Rattle.model.specs.Limits.{limited}
 use Rattle.model.specs.declared.table.Step.{Step}
 use Rattle.model.specs.declared.table.Holding.{Holding}
-
--- some entry of the list passes
-abbrev pub any : {X : Type 0} → (X → Bool) → List X → Bool
-any passes [] = false
-any passes (x ∷ xs) = passes x || any passes xs
 
 -- the record names a step from s to t
 abbrev pub is_step : ℕ → ℕ → Step → Bool
@@ -19,4 +15,4 @@ abbrev pub is_holding : ℕ → ℕ → Holding → Bool
 is_holding p s h = h.prop == p && h.state == s
 
 abbrev pub listed : ℕ → ℕ → List Step → List Holding → Meaning
-listed n p steps holdings = limited n p (λ s t. any (is_step s t) steps) (λ q s. any (is_holding q s) holdings)
+listed n p steps holdings = limited n p (λ s t. list_any (is_step s t) steps) (λ q s. list_any (is_holding q s) holdings)

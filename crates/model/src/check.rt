@@ -15,6 +15,7 @@ pub fn walkable<M: Model>(model: &M) -> Result<(), ModelFault>
     if n == 0 {
         return Err(ModelFault::NoStates);
     }
+    // The project keeps this form here: a loop over states, broken with the state's number as its value.
     let mut s = 0;
     let stuck = loop {
         if s == n || model.least_step(s, 0).is_none() {

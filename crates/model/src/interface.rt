@@ -4,7 +4,7 @@ ghost use Rattle.model.specs.Limits.{kept};
 ghost use Rattle.model.specs.Meaning.{Meaning, Lawful, Least};
 
 /// How many states and how many propositions a model has.
-#[derive(Clone, Copy, PartialEq, Eq, Debug)]
+#[derive(Clone, Copy, PartialEq, Eq, Debug, Default)]
 pub struct Size {
     pub states: u16,
     pub props: u8,
@@ -22,10 +22,7 @@ impl Size {
                 props: props as u8,
             }
         } else {
-            Size {
-                states: 0,
-                props: 0,
-            }
+            Size::default()
         }
     }
 

@@ -6,9 +6,5 @@ ghost use Rattle.model.specs.Lesser.{lesser_of};
 pub(crate) fn lesser_of(x: Option<u16>, y: Option<u16>) -> Option<u16>
     ensures { result ≡ lesser_of x y }
 {
-    match (x, y) {
-        (Some(a), Some(b)) => Some(a.min(b)),
-        (Some(a), None) => Some(a),
-        (None, other) => other,
-    }
+    x.into_iter().chain(y).min()
 }

@@ -40,10 +40,7 @@ fn first_steps<M: FiniteModel>(part: &M, width: u16, i: u16, j: u16, t: u16) -> 
     ensures { Least (λ u. (u % width == j) && (M.meaning part.now).step i (u / width)) t result }
 {
     let from = t.saturating_sub(j).div_ceil(width);
-    match part.least_step(i, from) {
-        Some(k) => Some(k * width + j),
-        None => None,
-    }
+    part.least_step(i, from).map(|k| k * width + j)
 }
 
 /// The least state of a pair from `t` on to which its second part, of `width` states, steps from `j`, while the first
@@ -53,10 +50,7 @@ fn second_steps<M: FiniteModel>(part: &M, width: u16, i: u16, j: u16, t: u16) ->
     ensures { Least (λ u. (u / width == i) && (M.meaning part.now).step j (u % width)) t result }
 {
     let low = i * width;
-    match part.least_step(j, t.saturating_sub(low)) {
-        Some(k) => Some(low + k),
-        None => None,
-    }
+    part.least_step(j, t.saturating_sub(low)).map(|k| low + k)
 }
 
 impl<A: FiniteModel, B: FiniteModel> FiniteModel for Pair<A, B> {

@@ -1,8 +1,9 @@
 //! A pool of frame buffers that two capture threads share.
-ghost use Rattle.std.specs.Prelude.{◌≡◌, ◌+◌, ◌-◌, ◌*◌, ◌^◌, ◌<◌, ◌≤◌, ◌&&◌, if◌then◌else◌, ◌==◌, nat_lt};
+ghost use Rattle.std.specs.Prelude.{◌≡◌, ◌+◌, ◌-◌, ◌*◌, ◌^◌, ◌<◌, ◌≤◌, ◌&&◌, ◌||◌, if◌then◌else◌, ◌==◌, nat_lt};
 ghost use Rattle.model.specs.Lawfulness.{pooled_lawful};
 ghost use Rattle.model.specs.Meaning.{Least};
 ghost use Rattle.model.specs.Pools.{digit, share, holder, leads, pooled};
+ghost use Rattle.model.specs.declared.pool.Thread.TheVariants.{A, B};
 
 use crate::interface::{Model as FiniteModel, Size};
 use crate::lesser::lesser_of;
@@ -30,8 +31,8 @@ impl Thread {
         ensures { result ≡ holder self digit }
     {
         match self {
-            Thread::A => digit == 1 || digit == 3,
-            Thread::B => digit == 2 || digit == 3,
+            Thread::A => matches!(digit, 1 | 3),
+            Thread::B => matches!(digit, 2 | 3),
         }
     }
 
@@ -56,11 +57,13 @@ impl Thread {
 /// is torn, proposition 1 that some buffer is free.
 #[derive(Clone, Copy, PartialEq, Eq, Debug)]
 pub struct Pool {
+    // Plain numbers: a pool with other numbers is a model too, one without states.
     pub buffers: u8,
     pub guard: u8,
 }
 
 /// The digit of buffer `i` in state `s`.
+#[tactic(auto, using(crate::proofs::Pooled::weight_few))]
 fn digit_of(s: u16, i: u8) -> u16
     requires { i < 6 }
     ensures { result ≡ digit i s }
@@ -69,6 +72,7 @@ fn digit_of(s: u16, i: u8) -> u16
 }
 
 /// State `s` with `e` for the digit of buffer `i`.
+#[tactic(auto, using(crate::proofs::Pooled::weight_few, crate::proofs::Pooled::part_few))]
 fn with_digit(s: u16, i: u8, e: u16) -> u16
     requires { (i < 6) × (s < 4096) × (e < 4) }
     ensures { result + digit i s * 4 ^ i ≡ s + e * 4 ^ i }
@@ -95,7 +99,16 @@ impl Pool {
             return None;
         }
         let u = with_digit(s, i, e);
+        // `then_some` was tried: the proof of the two cases did not close.
         if u < t { None } else { Some(u) }
+    }
+
+    /// The least state not below `t` to which a thread gets from `s` with buffer `i`.
+    fn turns(&self, i: u8, s: u16, t: u16) -> Option<u16>
+        requires { (i < self.now.buffers) × (self.now.buffers ≤ 6) × (s < 4 ^ self.now.buffers) }
+        ensures { Least (λ u. nat_lt u (4 ^ self.now.buffers) && (leads self.now.buffers self.now.guard A i s u || leads self.now.buffers self.now.guard B i s u)) t result }
+    {
+        lesser_of(self.turn(Thread::A, i, s, t), self.turn(Thread::B, i, s, t))
     }
 }
 
@@ -105,16 +118,13 @@ impl FiniteModel for Pool {
     ghost lawful = { λ x. pooled_lawful x.buffers x.guard };
 
     fn size(&self) -> Size {
-        if self.buffers >= 1 && self.buffers <= 6 && self.guard <= 1 {
+        if (1..=6).contains(&self.buffers) && self.guard <= 1 {
             Size {
                 states: 4u16.pow(self.buffers as u32),
                 props: 2,
             }
         } else {
-            Size {
-                states: 0,
-                props: 0,
-            }
+            Size::default()
         }
     }
 
@@ -122,12 +132,7 @@ impl FiniteModel for Pool {
         if s >= self.size().states {
             return None;
         }
-        let mut least: Option<u16> = None;
-        for i in 0..self.buffers {
-            least = lesser_of(least, self.turn(Thread::A, i, s, t));
-            least = lesser_of(least, self.turn(Thread::B, i, s, t));
-        }
-        least
+        (0..self.buffers).filter_map(|i| self.turns(i, s, t)).min()
     }
 
     fn holds(&self, p: u8, s: u16) -> bool {
@@ -135,11 +140,6 @@ impl FiniteModel for Pool {
             return false;
         }
         let sought = if p == 0 { 3 } else { 0 };
-        for i in 0..self.buffers {
-            if digit_of(s, i) == sought {
-                return true;
-            }
-        }
-        false
+        (0..self.buffers).any(|i| digit_of(s, i) == sought)
     }
 }

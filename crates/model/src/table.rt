@@ -7,14 +7,14 @@ use crate::interface::{Model as FiniteModel, Size};
 use crate::lesser::lesser_of;
 
 /// A step of a table.
-#[derive(Clone, Copy, PartialEq, Eq, Debug)]
+#[derive(Clone, Copy, PartialEq, Eq, Debug, Default)]
 pub struct Step {
     pub from: u16,
     pub to: u16,
 }
 
 /// A proposition of a table that holds in a state of it.
-#[derive(Clone, Copy, PartialEq, Eq, Debug)]
+#[derive(Clone, Copy, PartialEq, Eq, Debug, Default)]
 pub struct Holding {
     pub prop: u8,
     pub state: u16,
@@ -47,6 +47,7 @@ impl FiniteModel for Table<'_> {
             return None;
         }
         let mut least: Option<u16> = None;
+        // The project keeps this form here: a `for` over the plain step records.
         for e in self.steps {
             if e.from == s && e.to >= t && e.to < n {
                 least = lesser_of(least, Some(e.to));
@@ -59,6 +60,7 @@ impl FiniteModel for Table<'_> {
         if !self.size().has(p, s) {
             return false;
         }
+        // The project keeps this form here too.
         for h in self.holdings {
             if h.prop == p && h.state == s {
                 return true;

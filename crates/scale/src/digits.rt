@@ -8,10 +8,10 @@ ghost use Rattle.scale.specs.Digits.{written};
 pub fn digits(levels: u8, degree: u8) -> Option<&'static str>
     ensures { option_map (λ x. x.now) result ≡ written levels degree }
 {
-    if levels < 1 || levels > 4 || degree > levels {
+    if !(1..=4).contains(&levels) {
         return None;
     }
-    let ones = degree as usize;
-    let zeros = (levels - degree) as usize;
+    let zeros = usize::from(levels.checked_sub(degree)?);
+    let ones = usize::from(degree);
     Some(&"00001111"[4 - zeros..4 + ones])
 }

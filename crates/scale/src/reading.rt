@@ -1,6 +1,8 @@
 //! How a level is read along an endless walk.
-ghost use Rattle.std.specs.Prelude.{◌≡◌};
+ghost use Rattle.std.specs.Prelude.{◌≡◌, Some};
 ghost use Rattle.scale.specs.Readings.{named};
+
+use std::fmt;
 
 /// How often the positions of an endless walk must be good for the walk to meet a level, weakest first.
 #[derive(Clone, Copy, PartialEq, Eq, Debug)]
@@ -16,6 +18,7 @@ pub enum Reading {
 }
 
 impl Reading {
+    /// The reading in words.
     pub fn name(self) -> &'static str
         ensures { result.now ≡ named self }
     {
@@ -25,5 +28,13 @@ impl Reading {
             Reading::EventuallyAlways => "eventually always",
             Reading::Always => "always",
         }
+    }
+}
+
+impl fmt::Display for Reading {
+    ghost output = { λ r. Some (named r) };
+
+    fn fmt<W: fmt::Write>(&self, f: &mut fmt::Formatter<W>) -> fmt::Result {
+        f.write_str(self.name())
     }
 }

@@ -34,11 +34,8 @@ const FIVE_VALUED: [Reading; 4] = [
 fn reading_at(readings: &[Reading], level: u8) -> Option<Reading>
     ensures { result ≡ reading_at readings.now level }
 {
-    let n = level as usize;
-    if n == 0 || n > readings.len() {
-        return None;
-    }
-    Some(readings[n - 1])
+    let index = usize::from(level).checked_sub(1)?;
+    readings.get(index).copied()
 }
 
 /// One level, read *always*.
@@ -58,6 +55,8 @@ impl Scale for Boolean {
         reading_at(&BOOLEAN, level)
     }
 }
+
+// Two unit types, not one with a list: a list from a caller need not be a lawful scale. They share `reading_at`.
 
 /// Four levels: *sometime*, *infinitely often*, *eventually always*, *always*.
 #[derive(Clone, Copy, PartialEq, Eq, Debug)]

@@ -10,11 +10,11 @@ use Rattle.logic.specs.Kinds.{Kind, reach}
 use Rattle.logic.specs.Kinds.Kind.{path}
 use Rattle.logic.specs.Satisfaction.{sat, sat_path, highest, row_degree}
 use Rattle.logic.specs.Sets.{Set}
-use Rattle.logic.specs.Walks.{Operator}
+use Rattle.logic.specs.Walks.{Operator, Quantifier}
+use Rattle.sheet.specs.Kinds.{kind_of, operator_of}
 use Rattle.model.specs.Meaning.{Meaning}
 use Rattle.scale.specs.Grades.{Grades}
 use Rattle.scale.specs.declared.reading.Reading.{Reading}
-use Rattle.sheet.specs.Kinds.{kind_of, operator_of}
 
 -- an operand that is there, and one that is not
 pub there : (t : Bool) (f : ℕ → ℕ) (l s : ℕ) (b : Bool) → t ≡ true → b ≡ leb l (f s) → b ≡ reach (cond t f unused) l s
@@ -30,17 +30,15 @@ chosen false = refl
 pub path_kind : (k a : ℕ) → 6 ≤ k → kind_of k a ≡ path (quantifier (ltb k 11)) (operator_of (cond (ltb k 11) (k - 6) (k - 11)))
 path_kind k a l = grind (arith, nat_tests)
 
--- the set that the engine gives is the one that the row's number asks for
-pub path-set : (m : Meaning) (g : Grades) (k a l : ℕ) (o : Operator) (q : Reading) (left right : Set) (f h : ℕ → ℕ) → 6 ≤ k → o ≡ operator_of (cond (ltb k 11) (k - 6) (k - 11)) → Some q ≡ g.reading l → left ≡ reach f l → right ≡ reach h l → sat_path m (ours (ltb k 11)) o (Some q) left right ≡ sat m g (kind_of k a) l f h
-path-set m g k a l o q left right f h six op read el er =
-    ap (λ w. sat_path m w o (Some q) left right) (chosen (ltb k 11)) ∙ ap (λ o. sat_path m (choosing (quantifier (ltb k 11))) o (Some q) left right) op
-    ∙ ap (λ r. sat_path m (choosing (quantifier (ltb k 11))) (operator_of (cond (ltb k 11) (k - 6) (k - 11))) r left right) read
-    ∙ ap (λ x. sat_path m (choosing (quantifier (ltb k 11))) (operator_of (cond (ltb k 11) (k - 6) (k - 11))) (g.reading l) x right) el
-    ∙ ap (λ x. sat_path m (choosing (quantifier (ltb k 11))) (operator_of (cond (ltb k 11) (k - 6) (k - 11))) (g.reading l) (reach f l) x) er
-    ∙ ap (λ (c : Kind). sat m g c l f h) (sym (path_kind k a six))
+-- the set that the engine gives is the one that the row asks for
+pub path-set : (m : Meaning) (g : Grades) (k : Kind) (l : ℕ) (some : Bool) (o : Operator) (q : Reading) (left right : Set) (f h : ℕ → ℕ) → k ≡ path (quantifier some) o → Some q ≡ g.reading l → left ≡ reach f l → right ≡ reach h l → sat_path m (ours some) o (Some q) left right ≡ sat m g k l f h
+path-set m g k l some o q left right f h kind read el er =
+    ap (λ w. sat_path m w o (Some q) left right) (chosen some) ∙ ap (λ r. sat_path m (choosing (quantifier some)) o r left right) read
+    ∙ ap (λ x. sat_path m (choosing (quantifier some)) o (g.reading l) x right) el ∙ ap (λ x. sat_path m (choosing (quantifier some)) o (g.reading l) (reach f l) x) er
+    ∙ ap (λ (c : Kind). sat m g c l f h) (sym kind)
 
 -- a path row's degree is the highest level that it reaches
-pub path-degree : (m : Meaning) (g : Grades) (k a n s : ℕ) (f h : ℕ → ℕ) → 6 ≤ k → g.levels ≡ n → highest n (λ l. sat m g (kind_of k a) l f h s) ≡ row_degree m g (kind_of k a) f h s
-path-degree m g k a n s f h six e =
-    ap (λ n. highest n (λ l. sat m g (kind_of k a) l f h s)) (sym e) ∙ ap (λ (c : Kind). highest g.levels (λ l. sat m g c l f h s)) (path_kind k a six)
-    ∙ ap (λ (c : Kind). row_degree m g c f h s) (sym (path_kind k a six))
+pub path-degree : (m : Meaning) (g : Grades) (k : Kind) (q : Quantifier) (o : Operator) (n s : ℕ) (f h : ℕ → ℕ) → k ≡ path q o → g.levels ≡ n → highest n (λ l. sat m g k l f h s) ≡ row_degree m g k f h s
+path-degree m g k q o n s f h kind e =
+    ap (λ n. highest n (λ l. sat m g k l f h s)) (sym e) ∙ ap (λ (c : Kind). highest g.levels (λ l. sat m g c l f h s)) kind
+    ∙ ap (λ (c : Kind). row_degree m g c f h s) (sym kind)

@@ -1,7 +1,6 @@
 -- A chain of checks ends at the first refusal.
-use Rattle.std.proofs.Common.{◌≡◌, ℕ, true, is_err, Ok, Err, Result, ap, ◌∙◌}
+use Rattle.std.proofs.Common.{◌≡◌, ℕ, Ok, Err, Result, refl, ap, ◌∙◌}
 use Rattle.model.specs.Faults.{Refusal}
-use Rattle.std.proofs.lemmas.Bool.{both_ways}
 use Rattle.sheet.specs.Calls.{and_then, leaving}
 use Rattle.sheet.specs.States.{State}
 use Rattle.sheet.specs.declared.fault.SheetFault.{SheetFault}
@@ -12,8 +11,12 @@ stops a r e h = ap (λ (a : Result Unit Refusal). and_then a r) h
 pub goes : {X : Type 0} (a : Result Unit Refusal) (r z : Result X Refusal) (u : Unit {0}) → Ok u ≡ a → z ≡ r → z ≡ and_then a r
 goes a r z u h k = k ∙ ap (λ (a : Result Unit Refusal). and_then a r) h
 
-pub never_ok : {A : Type 0} (r : Result Unit SheetFault) → is_err r ≡ true → r ≡ Ok tt → A
-never_ok r e q = absurd (both_ways (is_err r) (ap is_err q) e)
+-- the same checks in other groups
+pub regrouped : {X : Type 0} (a b c d : Result Unit Refusal) (r : Result X Refusal) → and_then (and_then a b) (and_then (and_then c d) r) ≡ and_then (and_then a (and_then b c)) (and_then d r)
+regrouped (Ok u) (Ok v) (Ok w) d r = refl
+regrouped (Ok u) (Ok v) (Err e) d r = refl
+regrouped (Ok u) (Err e) c d r = refl
+regrouped (Err e) b c d r = refl
 
 -- a call that is accepted leaves what it makes
 pub accepted : (q : Result Unit Refusal) (u : Unit {0}) (s t x : State) → Ok u ≡ q → x ≡ t → x ≡ leaving q s t

@@ -1,5 +1,7 @@
 pub mod Places
 pub mod Fields
+pub mod Numbers
+pub mod Over
 pub mod Sound
 pub mod Exits
 pub mod Marked

@@ -1,12 +1,12 @@
 -- The highest level reached, level by level.
-use Rattle.std.proofs.Common.{◌≡◌, ℕ, suc, ◌+◌, Bool, cond, ap, ◌∙◌, subst, arith}
+use Rattle.std.proofs.Common.{◌≡◌, ℕ, zero, suc, ◌-◌, ◌≤◌, Bool, cond, ap, ◌∙◌, subst, arith}
 use Rattle.logic.specs.Satisfaction.{highest}
 
-pub next_level : (n : ℕ) (passes : ℕ → Bool) (d old : ℕ) (b : Bool) → b ≡ passes (n + 1) → old ≡ highest n passes → d ≡ cond b (n + 1) old → d ≡ highest (n + 1) passes
-next_level n passes d old b =
-    let one : suc n ≡ n + 1 = omega arith in
-    subst (λ j. b ≡ passes j → old ≡ highest n passes → d ≡ cond b j old → d ≡ highest j passes) one
-    (λ e h k. k ∙ ap (λ b. cond b (suc n) old) e ∙ ap (λ o. cond (passes (suc n)) (suc n) o) h)
+pub next_level : (l : ℕ) (passes : ℕ → Bool) (d old : ℕ) (b : Bool) → 1 ≤ l → b ≡ passes l → old ≡ highest (l - 1) passes → d ≡ cond b l old → d ≡ highest l passes
+next_level zero passes d old b h e f k = absurd (omega arith)
+next_level (suc n) passes d old b h e f k =
+    let below : suc n - 1 ≡ n = omega arith in
+    k ∙ ap (λ b. cond b (suc n) old) e ∙ ap (λ o. cond (passes (suc n)) (suc n) o) (f ∙ ap (λ j. highest j passes) below)
 
 pub last_level : (n k : ℕ) (passes : ℕ → Bool) (d : ℕ) → n ≡ k → d ≡ highest n passes → d ≡ highest k passes
 last_level n k passes d e h = subst (λ n. d ≡ highest n passes) e h

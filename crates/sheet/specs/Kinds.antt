@@ -1,10 +1,18 @@
 -- The fifteen kinds by number.
-use Rattle.std.specs.Prelude.{ℕ, ◌-◌, cond, List, [], ◌∷◌, codes, ◌==◌, nat_lt, slice_index, slice_index_or}
+use Rattle.std.specs.Prelude.{◌≡◌, ℕ, ◌+◌, ◌-◌, ◌<◌, ◌⊎◌, Bool, true, false, cond, List, [], ◌∷◌, codes, Some, None, Option, Result, MatchResult, ◌==◌, nat_lt, slice_index, slice_index_or}
+use Rattle.engine.specs.Satisfied.{asked}
+use Rattle.engine.specs.declared.operator.Operator.{Operator as Asking}
+use Rattle.engine.specs.declared.operator.Operator.TheVariants.{Next, Finally, Globally, Until, Weak}
 use Rattle.logic.specs.Kinds.{Kind}
 use Rattle.logic.specs.Kinds.Kind.{prop, or, and, neg, imp, path}
 use Rattle.logic.specs.Walks.{Operator}
 use Rattle.logic.specs.Walks.Operator.{next, finally, globally, until, weak}
 use Rattle.logic.specs.Walks.Quantifier.{some_walk, every_walk}
+use Rattle.sheet.specs.declared.kinds.Kind.{Kind as RowKind}
+use Rattle.sheet.specs.declared.kinds.Kind.TheVariants.{Prop, Or, And, Not, Imp, E, A}
+use Rattle.sheet.specs.declared.kinds.KindInfo.{KindInfo}
+use Rattle.sheet.specs.declared.kinds.UnknownKind.{UnknownKind}
+use Rattle.sheet.specs.declared.row.Row.{Row}
 
 -- X, F, G, U, W in this order
 abbrev pub operator_of : ℕ → Operator
@@ -32,3 +40,56 @@ names =
 
 abbrev pub name_of : ℕ → List ℕ
 name_of k = slice_index_or names (k - 1) []
+
+-- the place of an operator among the five
+abbrev pub place_of : Asking → ℕ
+place_of Next = 0
+place_of Finally = 1
+place_of Globally = 2
+place_of Until = 3
+place_of Weak = 4
+
+-- the number that stands for a kind
+abbrev pub number_of : RowKind → ℕ
+number_of Prop = 1
+number_of Or = 2
+number_of And = 3
+number_of Not = 4
+number_of Imp = 5
+number_of (E o) = 6 + place_of o
+number_of (A o) = 11 + place_of o
+
+-- the kind of the logic that it is; the proposition is a
+abbrev pub meant : RowKind → ℕ → Kind
+meant Prop a = prop a
+meant Or a = or
+meant And a = and
+meant Not a = neg
+meant Imp a = imp
+meant (E o) a = path some_walk (asked o)
+meant (A o) a = path every_walk (asked o)
+
+-- for a kind that asks for walks, whether some walk serves, and what is asked of it
+abbrev pub path_of : RowKind → Option (Bool × Asking)
+path_of Prop = None
+path_of Or = None
+path_of And = None
+path_of Not = None
+path_of Imp = None
+path_of (E o) = Some (true, o)
+path_of (A o) = Some (false, o)
+
+-- the result is the kind with this number, or an error with a number that no kind has
+abbrev pub Numbered : ℕ → Result RowKind UnknownKind → Type 0
+Numbered n r = MatchResult r (λ kind. number_of kind ≡ n) (λ e. (e.0 ≡ n) × ((n < 1) ⊎ (15 < n)))
+
+-- what the table has of a kind
+pub record Tells (k : RowKind) (x : KindInfo) : Type 0 where
+  pub kind : x.kind ≡ k
+  pub number : x.number ≡ number_of k
+  pub name : x.name.now ≡ name_of (number_of k)
+  pub operands : x.operands ≡ operands_of (number_of k)
+
+-- the row of this kind over these operands
+abbrev pub row_with : RowKind → ℕ → ℕ → Row
+row_with k x y = record { kind = number_of k; a = x; b = y }

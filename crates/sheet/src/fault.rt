@@ -1,8 +1,9 @@
 //! Why a call of the sheet is refused.
 ghost use Rattle.std.specs.Prelude.{◌≡◌};
 ghost use Rattle.sheet.specs.Faults.{told};
-ghost use Rattle.sheet.specs.declared.fault.SheetFault.TheVariants.{Model as OfModel};
+ghost use Rattle.sheet.specs.declared.fault.SheetFault.TheVariants.{Model as OfModel, Kind as NoKind};
 
+use crate::kinds::UnknownKind;
 use model::fault::ModelFault;
 
 /// Why a call of the sheet is refused.
@@ -39,6 +40,14 @@ impl From<ModelFault> for SheetFault {
 
     fn from(fault: ModelFault) -> SheetFault {
         Self::Model(fault)
+    }
+}
+
+impl From<UnknownKind> for SheetFault {
+    ghost from_gives = { λ _ r. r ≡ NoKind };
+
+    fn from(_fault: UnknownKind) -> SheetFault {
+        Self::Kind
     }
 }
 

@@ -3,6 +3,7 @@ ghost use Rattle.std.specs.Prelude.{◌≤◌};
 
 pub mod calls;
 pub mod checks;
+mod lent;
 pub mod walking;
 pub mod working;
 

@@ -1,4 +1,3 @@
-pub mod Kept
 pub mod Reads
 pub mod Formulas
 pub mod Lines

@@ -21,6 +21,10 @@ pub record Said : Type 0 where
 abbrev pub count : Said → ℕ
 count h = length h.steps + length h.holdings + length h.asks
 
+-- how many more there can be: a table has at most 1,024 steps, 1,024 holdings and 8 asks, one to a line
+abbrev pub spare : Said → ℕ
+spare h = (1024 - length h.steps) + (1024 - length h.holdings) + (8 - length h.asks)
+
 abbrev pub nothing : Said
 nothing = record { steps = []; holdings = []; rows = []; asks = [] }
 
@@ -34,14 +38,17 @@ head_at word full place bs =
     and_then (need (word_at word bs)) (λ _ b1.
     and_then (need (gap_at b1)) (λ _ b2. cond full (Err (Many place)) (Ok (tt, b2))))
 
+-- two numbers, and the line's end
+abbrev pub numbers_at : (ℕ → Bool) → (ℕ → Bool) → List ℕ → Got (ℕ × ℕ)
+numbers_at s t bs =
+    and_then (number_at s bs) (λ x b1.
+    and_then (need (gap_at b1)) (λ _ b2.
+    and_then (number_at t b2) (λ y b3.
+    and_then (end_at b3) (λ _ b4. Ok ((x, y), b4)))))
+
 -- the rest of a line "(word x y)", after its opening bracket
 abbrev pub pair_at : List ℕ → Bool → ℕ → (ℕ → Bool) → (ℕ → Bool) → List ℕ → Got (ℕ × ℕ)
-pair_at word full place s t bs =
-    and_then (head_at word full place bs) (λ _ b1.
-    and_then (number_at s b1) (λ x b2.
-    and_then (need (gap_at b2)) (λ _ b3.
-    and_then (number_at t b3) (λ y b4.
-    and_then (end_at b4) (λ _ b5. Ok ((x, y), b5))))))
+pair_at word full place s t bs = and_then (head_at word full place bs) (λ _. numbers_at s t)
 
 -- a scale has one level or four
 abbrev pub is_scale : ℕ → Bool

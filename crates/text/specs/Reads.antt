@@ -16,6 +16,11 @@ abbrev pub beside : {T : Type 0} → Result T ReadFault → List ℕ → Got T
 beside (Ok x) left = Ok (x, left)
 beside (Err e) left = Err e
 
+-- what f makes of an answer, beside the bytes that are then left
+abbrev pub beside_by : {T U : Type 0} → (T → U) → Result T ReadFault → List ℕ → Got U
+beside_by f (Ok x) left = Ok (f x, left)
+beside_by f (Err e) left = Err e
+
 -- what the call has changed, where it is answered, beside the bytes that are then left
 abbrev pub with : {T U : Type 0} → Result T ReadFault → U → List ℕ → Got U
 with (Ok x) u left = Ok (u, left)

@@ -4,7 +4,6 @@ use Rattle.text.specs.declared.fault.ReadFault.{ReadFault}
 use Rattle.text.specs.declared.script.Body.{Body}
 use Rattle.text.specs.declared.script.Script.{Script}
 use Rattle.text.specs.declared.script.Source.{Source}
-use Rattle.text.specs.Kept.{items_of}
 use Rattle.text.specs.Reads.{Got, and_then}
 use Rattle.text.specs.Lines.{Said, nothing, scale_at, source_at, lines_at}
 
@@ -22,7 +21,7 @@ script_at bs =
     and_then (lines_at m 2057 nothing b2) (λ h left. Ok (record { levels = d; source = m; said = h }, left))))
 
 abbrev pub said_in : Body → Said
-said_in b = record { steps = items_of b.steps; holdings = items_of b.holdings; rows = items_of b.rows; asks = items_of b.asks }
+said_in b = record { steps = b.steps.items; holdings = b.holdings.items; rows = b.rows.items; asks = b.asks.items }
 
 abbrev pub told_in : Script → Told
 told_in s = record { levels = s.levels; source = s.source; said = said_in s.body }

@@ -2,7 +2,6 @@
 #![tactic(auto)]
 
 pub mod fault;
-pub mod kept;
 pub mod read;
 mod reader;
 pub mod script;

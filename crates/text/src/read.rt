@@ -4,26 +4,21 @@ ghost use Rattle.text.specs.Scripts.{script_at, script_read, answer_of, said_in}
 ghost use Rattle.text.specs.Lines.{nothing};
 
 use crate::fault::ReadFault;
-use crate::kept::Kept;
 use crate::reader::Reader;
-use crate::script::{Ask, Body, Script};
-use model::table::{Holding, Step};
-use sheet::row::Row;
+use crate::script::{Body, Script};
+use arrayvec::ArrayVec;
 
 impl Body {
+    // Not a derived `Default`: the contract says what the lists are.
     /// What no line has said yet.
     fn blank() -> Self
         ensures { said_in result ≡ nothing }
     {
         Body {
-            steps: Kept::new(Step { from: 0, to: 0 }),
-            holdings: Kept::new(Holding { prop: 0, state: 0 }),
-            rows: Kept::new(Row {
-                kind: 0,
-                a: 0,
-                b: 0,
-            }),
-            asks: Kept::new(Ask { state: 0, row: 0 }),
+            steps: ArrayVec::new(),
+            holdings: ArrayVec::new(),
+            rows: ArrayVec::new(),
+            asks: ArrayVec::new(),
         }
     }
 }

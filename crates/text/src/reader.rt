@@ -4,16 +4,10 @@ ghost use Rattle.text.specs.Reads.{beside, need, head_of, word_at, gap_at, numer
 ghost use Rattle.text.specs.declared.fault.ReadFault.TheVariants.{Form as FormFault};
 
 use crate::fault::ReadFault;
+use std::ops::Range;
 
 mod formulas;
 mod lines;
-
-/// The numbers from `low` on and below `end`.
-#[derive(Clone, Copy)]
-struct Span {
-    low: u16,
-    end: u16,
-}
 
 /// The bytes of a text that are still to be read.
 #[derive(Drop)]
@@ -48,6 +42,7 @@ impl<'a> Reader<'a> {
     fn word(&mut self, letters: &[u8]) -> Option<()>
         ensures { (result, self.new.rest.now) ≡ word_at letters.now self.old.rest.now }
     {
+        // Not `strip_prefix`: a form fault stands at the first byte that does not fit.
         for c in letters {
             let b = self.peek()?;
             if b != *c {
@@ -81,28 +76,29 @@ impl<'a> Reader<'a> {
         };
         self.skip();
         let mut n = (first - b'0') as u16;
-        let mut more: u8 = 3;
-        while let Some(d @ b'0'..=b'9') = self.peek() {
-            if more == 0 {
-                return None;
-            }
+        for _i in 0..3u8 {
+            let Some(d @ b'0'..=b'9') = self.peek() else {
+                return Some(n);
+            };
             self.skip();
             n = n * 10 + (d - b'0') as u16;
-            more -= 1;
         }
-        Some(n)
+        match self.peek() {
+            Some(b'0'..=b'9') => None,
+            _ => Some(n),
+        }
     }
 
-    /// Takes a number that the span has.
-    fn number(&mut self, span: Span) -> Result<u16, ReadFault>
-        ensures reads { beside result self.new.rest.now ≡ number_at (within span.low span.end) self.old.rest.now }
-        ensures below { IfOk result (λ n. n < span.end) }
+    /// Takes a number that the range has.
+    fn number(&mut self, range: Range<u16>) -> Result<u16, ReadFault>
+        ensures reads { beside result self.new.rest.now ≡ number_at (within range.start range.end) self.old.rest.now }
+        ensures below { IfOk result (λ n. n < range.end) }
     {
         let place = self.rest.len();
         let Some(n) = self.numeral() else {
             return Err(self.unfit());
         };
-        if n < span.low || n >= span.end {
+        if !range.contains(&n) {
             return Err(ReadFault::Range(place));
         }
         Ok(n)

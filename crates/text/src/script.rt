@@ -1,6 +1,8 @@
 //! What a text says.
-use crate::kept::Kept;
-use model::table::{Holding, Step};
+ghost use Rattle.std.specs.Prelude.{◌≡◌};
+
+use arrayvec::ArrayVec;
+use model::table::{Holding, Step, Table};
 use sheet::row::Row;
 
 /// The model that a text names.
@@ -13,7 +15,7 @@ pub enum Source {
 }
 
 /// A question: which degree has this row at this state?
-#[derive(Clone, Copy, PartialEq, Eq, Debug)]
+#[derive(Clone, Copy, PartialEq, Eq, Debug, Default)]
 pub struct Ask {
     pub state: u16,
     pub row: u8,
@@ -22,10 +24,25 @@ pub struct Ask {
 /// What the lines after the model's say. The rows are those of all formulas, in the order in which they are entered.
 #[derive(Drop)]
 pub struct Body {
-    pub steps: Kept<Step, 1024>,
-    pub holdings: Kept<Holding, 1024>,
-    pub rows: Kept<Row, 32>,
-    pub asks: Kept<Ask, 8>,
+    pub steps: ArrayVec<Step, 1024>,
+    pub holdings: ArrayVec<Holding, 1024>,
+    pub rows: ArrayVec<Row, 32>,
+    pub asks: ArrayVec<Ask, 8>,
+}
+
+impl Body {
+    /// The table of so many states and propositions whose lists these are.
+    pub fn table(&self, states: u16, props: u8) -> Table<'_>
+        ensures counts { (result.states ≡ states) × (result.props ≡ props) }
+        ensures lists { (result.steps.now ≡ self.now.steps.items) × (result.holdings.now ≡ self.now.holdings.items) }
+    {
+        Table {
+            states,
+            props,
+            steps: self.steps.as_slice(),
+            holdings: self.holdings.as_slice(),
+        }
+    }
 }
 
 /// What a text says.

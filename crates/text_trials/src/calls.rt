@@ -1,8 +1,8 @@
 //! How the tests make the call.
+use arrayvec::ArrayVec;
 use listing::listing::list;
 use std::fmt::Display;
 use std::process::Abort;
-use text::kept::Kept;
 
 /// The scale's line.
 pub(crate) const SCALE: &str = "(scale 4)\n";
@@ -36,21 +36,22 @@ pub(crate) fn noted(
     let listed = list(text, &mut buffer);
     let end = listed.written;
     assert_eq!(rt; &buffer[0..end], listing, "{note}");
-    for b in &buffer[end..] {
-        assert_eq!(rt; *b, MARK, "{note}");
-    }
+    assert!(rt; buffer[end..].iter().all(|b| *b == MARK), "{note}");
     assert_eq!(rt; listed.number, number, "{note}");
 }
 
-/// Adds a piece to a text.
-pub(crate) fn add<const N: usize>(text: &mut Kept<u8, N>, piece: &str) {
-    for b in piece.as_bytes() {
-        text.push(*b);
-    }
+/// Adds a piece to a text. One that does not fit is left out, and the listing then differs.
+pub(crate) fn add<const N: usize>(text: &mut ArrayVec<u8, N>, piece: &str) {
+    add_bytes(text, piece.as_bytes());
+}
+
+/// Adds bytes to a text, as `add` does.
+pub(crate) fn add_bytes<const N: usize>(text: &mut ArrayVec<u8, N>, bytes: &[u8]) {
+    let _fits = text.try_extend_from_slice(bytes);
 }
 
 /// Adds a piece so many times.
-pub(crate) fn add_times(text: &mut Kept<u8, 20000>, piece: &str, times: usize) {
+pub(crate) fn add_times(text: &mut ArrayVec<u8, 20000>, piece: &str, times: usize) {
     for _ in 0..times {
         add(text, piece);
     }
@@ -59,9 +60,9 @@ pub(crate) fn add_times(text: &mut Kept<u8, 20000>, piece: &str, times: usize) {
 /// Checks the listing of each text, each after the same head.
 pub(crate) fn all(rt: &impl Abort, head: &str, number: u8, cases: &[(&str, &str)]) {
     for (rest, listing) in cases {
-        let mut text: Kept<u8, 20000> = Kept::new(0);
+        let mut text: ArrayVec<u8, 20000> = ArrayVec::new();
         add(&mut text, head);
         add(&mut text, rest);
-        noted(rt, *rest, text.list(), number, listing.as_bytes());
+        noted(rt, *rest, text.as_slice(), number, listing.as_bytes());
     }
 }

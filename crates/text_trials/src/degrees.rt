@@ -1,7 +1,7 @@
 //! Degrees.
-use super::calls::{POOL, ROUND, add, all, lists, noted};
+use super::calls::{POOL, ROUND, add, add_bytes, all, noted};
+use arrayvec::ArrayVec;
 use std::process::Abort;
-use text::kept::Kept;
 
 /// Two states by turns, the proposition in the first, on the scale of one level.
 const BOOLEAN: &str = "(scale 1)\n(table 2 1)\n(step 0 1)\n(step 1 0)\n(holds 0 0)\n";
@@ -12,27 +12,24 @@ const FORK: &str =
 
 /// Asks a formula at the first states, one after another.
 fn degrees(rt: &impl Abort, head: &str, formula: &str, each: &[&str]) {
-    let mut text: Kept<u8, 20000> = Kept::new(0);
-    let mut listing: Kept<u8, 256> = Kept::new(0);
+    let mut text: ArrayVec<u8, 20000> = ArrayVec::new();
+    let mut listing: ArrayVec<u8, 256> = ArrayVec::new();
     add(&mut text, head);
-    let mut state = b'0';
-    for degree in each {
+    for (state, degree) in (b'0'..=b'9').zip(each) {
         add(&mut text, "(ask ");
-        text.push(state);
+        add_bytes(&mut text, &[state]);
         add(&mut text, " ");
         add(&mut text, formula);
         add(&mut text, ")\n");
         add(&mut listing, "(degree ");
-        listing.push(state);
+        add_bytes(&mut listing, &[state]);
         add(&mut listing, " ");
-        listing.push(state);
+        add_bytes(&mut listing, &[state]);
         add(&mut listing, " ");
         add(&mut listing, degree);
         add(&mut listing, ")\n");
-        state = state.saturating_add(1);
     }
-    noted(rt, formula, text.list(), 0, listing.list());
-    ;
+    noted(rt, formula, text.as_slice(), 0, listing.as_slice());
 }
 
 #[test]

@@ -5,62 +5,42 @@ use model::pool::Pool;
 use model::table::{Holding, Step, Table};
 use std::io;
 
-const STAYING: [Step; 4] = [
-    Step { from: 0, to: 0 },
-    Step { from: 0, to: 1 },
-    Step { from: 1, to: 2 },
-    Step { from: 2, to: 2 },
-];
-
-const AT_BOTH_ENDS: [Holding; 2] = [Holding { prop: 0, state: 0 }, Holding { prop: 0, state: 2 }];
-
-const ALTERNATING: [Step; 2] = [Step { from: 0, to: 1 }, Step { from: 1, to: 0 }];
-
-const AT_FIRST: [Holding; 1] = [Holding { prop: 0, state: 0 }];
-
-const STILL: [Step; 1] = [Step { from: 0, to: 0 }];
-
-const BREAKING: [Step; 2] = [Step { from: 0, to: 0 }, Step { from: 0, to: 1 }];
-
 /// Three states: the walk may stay in the first and must stay in the last.
-pub(crate) fn staying() -> Table<'static> {
-    Table {
-        states: 3,
-        props: 1,
-        steps: &STAYING,
-        holdings: &AT_BOTH_ENDS,
-    }
-}
+pub(crate) const STAYING: Table<'static> = Table {
+    states: 3,
+    props: 1,
+    steps: &[
+        Step { from: 0, to: 0 },
+        Step { from: 0, to: 1 },
+        Step { from: 1, to: 2 },
+        Step { from: 2, to: 2 },
+    ],
+    holdings: &[Holding { prop: 0, state: 0 }, Holding { prop: 0, state: 2 }],
+};
 
 /// Two states by turns.
-pub(crate) fn alternating() -> Table<'static> {
-    Table {
-        states: 2,
-        props: 1,
-        steps: &ALTERNATING,
-        holdings: &AT_FIRST,
-    }
-}
+pub(crate) const ALTERNATING: Table<'static> = Table {
+    states: 2,
+    props: 1,
+    steps: &[Step { from: 0, to: 1 }, Step { from: 1, to: 0 }],
+    holdings: &[Holding { prop: 0, state: 0 }],
+};
 
 /// One state that steps to itself.
-pub(crate) fn still() -> Table<'static> {
-    Table {
-        states: 1,
-        props: 0,
-        steps: &STILL,
-        holdings: &[],
-    }
-}
+pub(crate) const STILL: Table<'static> = Table {
+    states: 1,
+    props: 0,
+    steps: &[Step { from: 0, to: 0 }],
+    holdings: &[],
+};
 
 /// The film breaks in state 1.
-pub(crate) fn breaking() -> Table<'static> {
-    Table {
-        states: 2,
-        props: 0,
-        steps: &BREAKING,
-        holdings: &[],
-    }
-}
+pub(crate) const BREAKING: Table<'static> = Table {
+    states: 2,
+    props: 0,
+    steps: &[Step { from: 0, to: 0 }, Step { from: 0, to: 1 }],
+    holdings: &[],
+};
 
 /// One frame buffer that two capture threads share.
 pub(crate) fn pools(rt: &HostRuntime) -> io::Result<()> {
@@ -85,9 +65,9 @@ pub(crate) fn pools(rt: &HostRuntime) -> io::Result<()> {
 /// Two tables.
 pub(crate) fn tables(rt: &HostRuntime) -> io::Result<()> {
     println!(rt; "A table of three states that may stay in the first and must stay in the last:")?;
-    show::whole(rt, &staying())?;
+    show::whole(rt, &STAYING)?;
     println!(rt; "A table of two states that alternate:")?;
-    show::whole(rt, &alternating())
+    show::whole(rt, &ALTERNATING)
 }
 
 /// Models side by side.
@@ -96,8 +76,8 @@ pub(crate) fn pairs(rt: &HostRuntime) -> io::Result<()> {
     show::whole(
         rt,
         &Pair {
-            first: still(),
-            second: alternating(),
+            first: STILL,
+            second: ALTERNATING,
         },
     )?;
     println!(rt;
@@ -121,7 +101,7 @@ pub(crate) fn pairs(rt: &HostRuntime) -> io::Result<()> {
 /// Models that cannot be walked.
 pub(crate) fn refusals(rt: &HostRuntime) -> io::Result<()> {
     println!(rt; "A table with a dead end, as where the film breaks:")?;
-    show::whole(rt, &breaking())?;
+    show::whole(rt, &BREAKING)?;
     println!(rt; "A pool of seven buffers, one more than a pool may have:")?;
     let large = Pool {
         buffers: 7,

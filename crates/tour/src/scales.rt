@@ -15,8 +15,7 @@ fn whole<S: Scale>(rt: &HostRuntime, scale: &S) -> io::Result<()> {
     let levels = scale.levels();
     for level in 1..=levels {
         if let Some(reading) = scale.reading(level) {
-            let name = reading.name();
-            println!(rt; "  level {level} reads {name}")?;
+            println!(rt; "  level {level} reads {reading}")?;
         }
     }
     print!(rt; "  degrees:")?;

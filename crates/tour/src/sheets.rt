@@ -1,78 +1,131 @@
 //! Rows entered on sheets, and calls that are refused.
-use crate::models::{alternating, breaking, staying, still};
+use crate::models::{ALTERNATING, BREAKING, STAYING, STILL};
+use engine::operator::Operator;
 use model::interface::Model;
 use model::pair::Pair;
 use model::pool::Pool;
 use scale::digits::digits;
 use scale::scales::{Boolean, FiveValued, Scale};
 use sheet::fault::SheetFault;
+use sheet::kinds::Kind;
 use sheet::row::Row;
 use sheet::sheet::Sheet;
 use std::io;
 
-const EMPTY: Row = Row {
-    kind: 0,
-    a: 0,
-    b: 0,
-};
+const EX: Kind = Kind::E(Operator::Next);
 
-fn row(kind: u8, a: u8, b: u8) -> Row {
-    Row { kind, a, b }
-}
+const EF: Kind = Kind::E(Operator::Finally);
+
+const EG: Kind = Kind::E(Operator::Globally);
+
+const AG: Kind = Kind::A(Operator::Globally);
+
+const AW: Kind = Kind::A(Operator::Weak);
 
 fn refused(rt: &HostRuntime, text: &str, fault: SheetFault) -> io::Result<()> {
-    let number = fault.number();
-    let value = fault.value();
-    println!(rt; "  {text}: refused with {number}, value {value}")
+    println!(rt;
+        "  {text}: refused with {}, value {}",
+        fault.number(),
+        fault.value()
+    )
 }
 
-/// The degrees of a row at the first four states.
-fn degrees(rt: &HostRuntime, sheet: &Sheet, bytes: &[u8], row: u8, levels: u8) -> io::Result<()> {
-    for s in 0..4 {
-        if let Ok(degree) = sheet.degree(bytes, row, s) {
-            if let Some(text) = digits(levels, degree) {
-                print!(rt; " {s}={text}")?;
+/// A sheet that is open over a model and a scale, with its buffers.
+#[derive(Drop)]
+struct Desk<'a, M, S> {
+    rt: &'a HostRuntime,
+    model: &'a M,
+    scale: &'a S,
+    sheet: Sheet,
+    rows: &'a mut [Row],
+    bytes: &'a mut [u8],
+}
+
+impl<'a, M: Model, S: Scale> Desk<'a, M, S> {
+    /// Enters a row and prints its degrees, or the refusal.
+    fn enter(&mut self, row: Row, text: &str) -> io::Result<()> {
+        let model = self.model;
+        self.enter_over(model, row, text)
+    }
+
+    /// Enters a row over another model.
+    fn enter_over<N: Model>(&mut self, other: &N, row: Row, text: &str) -> io::Result<()> {
+        let entered = self
+            .sheet
+            .enter(other, self.scale, self.rows, self.bytes, row);
+        self.tell(text, entered)
+    }
+
+    // Not `enter_over` with the bytes as well: the desk's own are lent mutably, and cannot be passed beside the desk.
+    /// Enters a row with other bytes.
+    fn enter_in(&mut self, bytes: &mut [u8], row: Row, text: &str) -> io::Result<()> {
+        let entered = self
+            .sheet
+            .enter(self.model, self.scale, self.rows, bytes, row);
+        self.tell(text, entered)
+    }
+
+    /// Enters one row after another.
+    fn enter_all(&mut self, asked: &[(Row, &str)]) -> io::Result<()> {
+        for (row, text) in asked {
+            self.enter(*row, text)?;
+        }
+        Ok(())
+    }
+
+    /// Prints the degrees of a row that was entered, or the refusal.
+    fn tell(&self, text: &str, entered: Result<u8, SheetFault>) -> io::Result<()> {
+        let rt = self.rt;
+        match entered {
+            Ok(number) => {
+                print!(rt; "  row {number}, {text}:")?;
+                self.degrees(number)
+            }
+            Err(fault) => refused(rt, text, fault),
+        }
+    }
+
+    /// Prints why a row has no degree at state 0, if it has none.
+    fn tell_refusal(&self, row: u8, text: &str) -> io::Result<()> {
+        match self.sheet.degree(self.bytes, row, 0) {
+            Ok(_) => Ok(()),
+            Err(fault) => refused(self.rt, text, fault),
+        }
+    }
+
+    /// The degrees of a row at the first four states.
+    fn degrees(&self, row: u8) -> io::Result<()> {
+        let rt = self.rt;
+        for s in 0..4 {
+            if let Ok(degree) = self.sheet.degree(self.bytes, row, s) {
+                if let Some(text) = digits(self.scale.levels(), degree) {
+                    print!(rt; " {s}={text}")?;
+                }
             }
         }
-    }
-    println!(rt; "")
-}
-
-/// Enters a row and prints its degrees, or the refusal.
-fn enter<M: Model, S: Scale>(
-    rt: &HostRuntime,
-    sheet: &mut Sheet,
-    over: (&M, &S),
-    buffers: (&mut [Row], &mut [u8]),
-    asked: (Row, &str),
-) -> io::Result<()> {
-    let (model, scale) = over;
-    let (rows, bytes) = buffers;
-    let (row, text) = asked;
-    match sheet.enter(model, scale, rows, bytes, row) {
-        Ok(number) => {
-            print!(rt; "  row {number}, {text}:")?;
-            degrees(rt, sheet, bytes, number, scale.levels())
-        }
-        Err(fault) => refused(rt, text, fault),
+        println!(rt; "")
     }
 }
 
-/// Opens a sheet and enters four rows.
-fn four_rows<M: Model, S: Scale>(
+/// Opens a sheet and enters rows.
+fn opened<M: Model, S: Scale>(
     rt: &HostRuntime,
-    over: (&M, &S),
-    asked: [(Row, &str); 4],
-    rows: &mut [Row],
+    model: &M,
+    scale: &S,
     bytes: &mut [u8],
+    asked: &[(Row, &str)],
 ) -> io::Result<()> {
-    let (model, scale) = over;
     match Sheet::open(model, scale) {
-        Ok(mut sheet) => {
-            for one in asked {
-                enter(rt, &mut sheet, over, (rows, bytes), one)?;
-            }
-            Ok(())
+        Ok(sheet) => {
+            let mut desk = Desk {
+                rt,
+                model,
+                scale,
+                sheet,
+                rows: &mut [Row::default(); 4],
+                bytes,
+            };
+            desk.enter_all(asked)
         }
         Err(fault) => refused(rt, "open", fault),
     }
@@ -81,144 +134,115 @@ fn four_rows<M: Model, S: Scale>(
 /// Proposition 0, always on every walk, on some walk, and after a step.
 fn about_p0<M: Model>(rt: &HostRuntime, model: &M) -> io::Result<()> {
     let asked = [
-        (row(1, 0, 0), "p0"),
-        (row(13, 0, 0), "AG p0"),
-        (row(8, 0, 0), "EG p0"),
-        (row(6, 0, 0), "EX p0"),
+        (Row::of(Kind::Prop, 0, 0), "p0"),
+        (Row::of(AG, 0, 0), "AG p0"),
+        (Row::of(EG, 0, 0), "EG p0"),
+        (Row::of(EX, 0, 0), "EX p0"),
     ];
-    four_rows(
-        rt,
-        (model, &FiveValued),
-        asked,
-        &mut [EMPTY; 4],
-        &mut [0u8; 12],
-    )
+    opened(rt, model, &FiveValued, &mut [0u8; 12], &asked)
 }
 
 /// Is a frame ever torn?
 fn about_torn(rt: &HostRuntime, buffers: u8, guard: u8) -> io::Result<()> {
     let asked = [
-        (row(1, 0, 0), "p0"),
-        (row(4, 0, 0), "not p0"),
-        (row(13, 1, 0), "AG not p0"),
-        (row(7, 0, 0), "EF p0"),
+        (Row::of(Kind::Prop, 0, 0), "p0"),
+        (Row::of(Kind::Not, 0, 0), "not p0"),
+        (Row::of(AG, 1, 0), "AG not p0"),
+        (Row::of(EF, 0, 0), "EF p0"),
     ];
-    four_rows(
-        rt,
-        (&Pool { buffers, guard }, &FiveValued),
-        asked,
-        &mut [EMPTY; 4],
-        &mut [0u8; 16384],
-    )
+    let pool = Pool { buffers, guard };
+    opened(rt, &pool, &FiveValued, &mut [0u8; 16384], &asked)
 }
 
 /// The table of two states on the Boolean scale.
 fn yes_or_no(rt: &HostRuntime) -> io::Result<()> {
     let asked = [
-        (row(1, 0, 0), "p0"),
-        (row(13, 0, 0), "AG p0"),
-        (row(6, 0, 0), "EX p0"),
-        (row(5, 1, 2), "AG p0 imp EX p0"),
+        (Row::of(Kind::Prop, 0, 0), "p0"),
+        (Row::of(AG, 0, 0), "AG p0"),
+        (Row::of(EX, 0, 0), "EX p0"),
+        (Row::of(Kind::Imp, 1, 2), "AG p0 imp EX p0"),
     ];
-    four_rows(
-        rt,
-        (&alternating(), &Boolean),
-        asked,
-        &mut [EMPTY; 4],
-        &mut [0u8; 8],
-    )
+    opened(rt, &ALTERNATING, &Boolean, &mut [0u8; 8], &asked)
 }
 
 /// Rows over the table of two states, and what is refused there.
-fn two_states(
-    rt: &HostRuntime,
-    sheet: &mut Sheet,
-    rows: &mut [Row],
-    bytes: &mut [u8],
-) -> io::Result<()> {
-    let model = alternating();
-    let over = (&model, &FiveValued);
-    let asked = [
-        (row(1, 0, 0), "p0"),
-        (row(13, 0, 0), "AG p0"),
-        (row(4, 1, 0), "not AG p0"),
-        (row(15, 0, 1), "p0 AW AG p0"),
-        (row(6, 0, 0), "EX p0"),
-        (row(5, 1, 4), "AG p0 imp EX p0"),
-        (row(16, 0, 0), "a sixteenth kind"),
-        (row(1, 1, 0), "a second proposition"),
-        (row(4, 6, 0), "not of itself"),
-    ];
-    for one in asked {
-        enter(rt, sheet, over, (rows, bytes), one)?;
-    }
-    let p0 = row(1, 0, 0);
+fn two_states<M: Model>(desk: &mut Desk<M, FiveValued>) -> io::Result<()> {
+    desk.enter_all(&[
+        (Row::of(Kind::Prop, 0, 0), "p0"),
+        (Row::of(AG, 0, 0), "AG p0"),
+        (Row::of(Kind::Not, 1, 0), "not AG p0"),
+        (Row::of(AW, 0, 1), "p0 AW AG p0"),
+        (Row::of(EX, 0, 0), "EX p0"),
+        (Row::of(Kind::Imp, 1, 4), "AG p0 imp EX p0"),
+        (
+            Row {
+                kind: 16,
+                ..Row::default()
+            },
+            "a sixteenth kind",
+        ),
+        (Row::of(Kind::Prop, 1, 0), "a second proposition"),
+        (Row::of(Kind::Not, 6, 0), "not of itself"),
+    ])?;
+    let p0 = Row::of(Kind::Prop, 0, 0);
     let other = Pool {
         buffers: 1,
         guard: 0,
     };
-    enter(
-        rt,
-        sheet,
-        (&other, &FiveValued),
-        (rows, bytes),
-        (p0, "over another model"),
-    )?;
-    enter(
-        rt,
-        sheet,
-        over,
-        (rows, &mut [0u8; 13]),
-        (p0, "with a byte too few"),
-    )?;
-    spoiled(rt, sheet, rows, bytes)
+    desk.enter_over(&other, p0, "over another model")?;
+    desk.enter_in(&mut [0u8; 13], p0, "with a byte too few")?;
+    spoiled(desk)
 }
 
-/// A byte of row 1 is spoiled, and the row is read.
-fn spoiled(
-    rt: &HostRuntime,
-    sheet: &mut Sheet,
-    rows: &mut [Row],
-    bytes: &mut [u8],
-) -> io::Result<()> {
+fn spoil(bytes: &mut [u8]) {
     if let Some(byte) = bytes.get_mut(3) {
         *byte = 5;
     }
-    let asked = (row(4, 1, 0), "not of a row with a spoiled byte");
-    enter(
-        rt,
-        sheet,
-        (&alternating(), &FiveValued),
-        (rows, bytes),
-        asked,
-    )?;
-    match sheet.degree(bytes, 6, 0) {
-        Ok(_) => Ok(()),
-        Err(fault) => refused(rt, "the degree of row 6", fault),
+}
+
+/// A byte of row 1 is spoiled, and the row is read.
+fn spoiled<M: Model>(desk: &mut Desk<M, FiveValued>) -> io::Result<()> {
+    spoil(desk.bytes);
+    desk.enter(Row::of(Kind::Not, 1, 0), "not of a row with a spoiled byte")?;
+    desk.tell_refusal(6, "the degree of row 6")
+}
+
+/// Opens a sheet over the table of two states, and enters its rows.
+fn over_two_states<M: Model>(rt: &HostRuntime, model: &M) -> io::Result<()> {
+    match Sheet::open(model, &FiveValued) {
+        Ok(sheet) => {
+            let mut desk = Desk {
+                rt,
+                model,
+                scale: &FiveValued,
+                sheet,
+                rows: &mut [Row::default(); 7],
+                bytes: &mut [0u8; 14],
+            };
+            two_states(&mut desk)
+        }
+        Err(fault) => refused(rt, "open", fault),
     }
 }
 
 /// Sheets over tables and a pair.
 pub(crate) fn tables(rt: &HostRuntime) -> io::Result<()> {
     println!(rt; "A sheet over the table of three states:")?;
-    about_p0(rt, &staying())?;
+    about_p0(rt, &STAYING)?;
     println!(rt; "Over the table of two states:")?;
-    match Sheet::open(&alternating(), &FiveValued) {
-        Ok(mut sheet) => two_states(rt, &mut sheet, &mut [EMPTY; 7], &mut [0u8; 14])?,
-        Err(fault) => refused(rt, "open", fault)?,
-    }
+    over_two_states(rt, &ALTERNATING)?;
     println!(rt; "Over the same on the Boolean scale:")?;
     yes_or_no(rt)?;
     println!(rt; "Over the pair of a one-state loop with it:")?;
     about_p0(
         rt,
         &Pair {
-            first: still(),
-            second: alternating(),
+            first: STILL,
+            second: ALTERNATING,
         },
     )?;
     println!(rt; "Over the table with a dead end:")?;
-    about_p0(rt, &breaking())
+    about_p0(rt, &BREAKING)
 }
 
 /// Sheets over pools, at their first four states.

@@ -37,10 +37,8 @@ fn steps<M: Model>(rt: &HostRuntime, model: &M) -> io::Result<()> {
     print!(rt; "  steps:")?;
     let n = model.states();
     for s in 0..n {
-        for t in 0..n {
-            if model.least_step(s, t) == Some(t) {
-                print!(rt; " {s}-{t}")?;
-            }
+        for t in (0..n).filter(|t| model.least_step(s, *t) == Some(*t)) {
+            print!(rt; " {s}-{t}")?;
         }
     }
     println!(rt; "")
@@ -50,10 +48,8 @@ fn steps<M: Model>(rt: &HostRuntime, model: &M) -> io::Result<()> {
 fn holdings<M: Model>(rt: &HostRuntime, model: &M) -> io::Result<()> {
     for p in 0..model.props() {
         print!(rt; "  proposition {p} holds in:")?;
-        for s in 0..model.states() {
-            if model.holds(p, s) {
-                print!(rt; " {s}")?;
-            }
+        for s in (0..model.states()).filter(|s| model.holds(p, *s)) {
+            print!(rt; " {s}")?;
         }
         println!(rt; "")?;
     }
@@ -61,16 +57,10 @@ fn holdings<M: Model>(rt: &HostRuntime, model: &M) -> io::Result<()> {
 }
 
 /// In how many states a proposition holds.
-fn count<M: Model>(model: &M, p: u8) -> u16
+fn count<M: Model>(model: &M, p: u8) -> usize
     ensures { result ≡ tally (M.meaning model.now).states ((M.meaning model.now).holds p) }
 {
-    let mut k = 0;
-    for s in 0..model.states() {
-        if model.holds(p, s) {
-            k += 1;
-        }
-    }
-    k
+    (0..model.states()).filter(|s| model.holds(p, *s)).count()
 }
 
 /// In how many states a frame is torn, where proposition `p` says so.
@@ -85,13 +75,10 @@ pub(crate) fn walkability<M: Model>(rt: &HostRuntime, model: &M) -> io::Result<(
     match walkable(model) {
         Ok(()) => println!(rt; "  can be walked: every state has a step"),
         Err(fault) => {
-            let number = fault.number();
-            let value = fault.value();
+            print!(rt; "  refused with {}: ", fault.number())?;
             match fault {
-                ModelFault::NoStates => println!(rt; "  refused with {number}: it has no states"),
-                ModelFault::DeadEnd(_) => println!(rt;
-                    "  refused with {number}: state {value} has no step"
-                ),
+                ModelFault::NoStates => println!(rt; "it has no states"),
+                ModelFault::DeadEnd(state) => println!(rt; "state {state} has no step"),
             }
         }
     }

@@ -9,3 +9,5 @@ mod models;
 mod scales;
 #[cfg(test)]
 mod sheets;
+#[cfg(test)]
+mod tables;

@@ -1,4 +1,5 @@
 //! Models at the edges.
+use super::tables::{ROUND, STILL};
 use model::check::walkable;
 use model::fault::ModelFault;
 use model::interface::{Model, Size};
@@ -10,12 +11,6 @@ const NOTHING: Size = Size {
     states: 0,
     props: 0,
 };
-
-const ROUND: [Step; 2] = [Step { from: 0, to: 1 }, Step { from: 1, to: 0 }];
-
-const FIRST: [Holding; 1] = [Holding { prop: 0, state: 0 }];
-
-const STILL: [Step; 1] = [Step { from: 0, to: 0 }];
 
 fn pool(buffers: u8, guard: u8) -> Pool {
     Pool { buffers, guard }
@@ -30,46 +25,18 @@ fn beside<A, B>(first: A, second: B) -> Pair<A, B> {
     Pair { first, second }
 }
 
-fn round() -> Table<'static> {
-    Table {
-        states: 2,
-        props: 1,
-        steps: &ROUND,
-        holdings: &FIRST,
-    }
-}
-
-fn still() -> Table<'static> {
-    Table {
-        states: 1,
-        props: 0,
-        steps: &STILL,
-        holdings: &[],
-    }
-}
-
 /// How many steps a model has.
-fn steps<M: Model>(model: &M) -> u32 {
-    let mut k = 0u32;
-    for s in 0..model.states() {
-        for t in 0..model.states() {
-            if model.least_step(s, t) == Some(t) {
-                k = k.saturating_add(1);
-            }
-        }
-    }
-    k
+fn steps<M: Model>(model: &M) -> usize {
+    let n = model.states();
+    (0..n).fold(0usize, |k, s| {
+        let from_s = (0..n).filter(|t| model.least_step(s, *t) == Some(*t));
+        k.saturating_add(from_s.count())
+    })
 }
 
 /// In how many states a proposition holds.
-fn holdings<M: Model>(model: &M, p: u8) -> u32 {
-    let mut k = 0u32;
-    for s in 0..model.states() {
-        if model.holds(p, s) {
-            k = k.saturating_add(1);
-        }
-    }
-    k
+fn holdings<M: Model>(model: &M, p: u8) -> usize {
+    (0..model.states()).filter(|s| model.holds(p, *s)).count()
 }
 
 #[test]
@@ -127,8 +94,8 @@ fn a_table_beyond_the_limits_has_nothing(rt: HostRuntime) {
     let tall = Table {
         states: 4097,
         props: 1,
-        steps: &ROUND,
-        holdings: &FIRST,
+        steps: ROUND.steps,
+        holdings: ROUND.holdings,
     };
     assert_eq!(rt; tall.size(), NOTHING);
     assert_eq!(rt; tall.least_step(0, 0), None);
@@ -136,8 +103,8 @@ fn a_table_beyond_the_limits_has_nothing(rt: HostRuntime) {
     let wide = Table {
         states: 2,
         props: 65,
-        steps: &ROUND,
-        holdings: &FIRST,
+        steps: ROUND.steps,
+        holdings: ROUND.holdings,
     };
     assert_eq!(rt; wide.size(), NOTHING);
     assert_eq!(rt; wide.least_step(0, 0), None);
@@ -145,8 +112,8 @@ fn a_table_beyond_the_limits_has_nothing(rt: HostRuntime) {
     let full = Table {
         states: 4096,
         props: 64,
-        steps: &ROUND,
-        holdings: &FIRST,
+        steps: ROUND.steps,
+        holdings: ROUND.holdings,
     };
     assert_eq!(rt; full.size(), size(4096, 64));
 }
@@ -179,16 +146,16 @@ fn a_record_of_what_is_missing_counts_for_nothing(rt: HostRuntime) {
 
 #[test]
 fn questions_at_the_edges_of_the_numbers(rt: HostRuntime) {
-    assert_eq!(rt; round().least_step(0, 0), Some(1));
-    assert_eq!(rt; round().least_step(0, 2), None);
-    assert_eq!(rt; round().least_step(2, 0), None);
-    assert_eq!(rt; round().least_step(65535, 65535), None);
-    assert!(rt; !round().holds(255, 65535));
+    assert_eq!(rt; ROUND.least_step(0, 0), Some(1));
+    assert_eq!(rt; ROUND.least_step(0, 2), None);
+    assert_eq!(rt; ROUND.least_step(2, 0), None);
+    assert_eq!(rt; ROUND.least_step(65535, 65535), None);
+    assert!(rt; !ROUND.holds(255, 65535));
     let pool = pool(6, 0);
     assert_eq!(rt; pool.least_step(4095, 65535), None);
     assert_eq!(rt; pool.least_step(4096, 0), None);
     assert!(rt; !pool.holds(2, 0) && !pool.holds(0, 4096) && pool.holds(0, 4095));
-    let pair = beside(pool, still());
+    let pair = beside(pool, STILL);
     assert_eq!(rt; pair.least_step(0, 65535), None);
     assert_eq!(rt; pair.least_step(65535, 0), None);
     assert!(rt; !pair.holds(255, 0) && !pair.holds(0, 65535));
@@ -196,7 +163,7 @@ fn questions_at_the_edges_of_the_numbers(rt: HostRuntime) {
 
 #[test]
 fn one_part_of_a_pair_steps_while_the_other_waits(rt: HostRuntime) {
-    let pair = beside(round(), pool(1, 0));
+    let pair = beside(ROUND, pool(1, 0));
     assert_eq!(rt; pair.size(), size(8, 3));
     assert_eq!(rt; pair.least_step(1, 0), Some(0), "A gives its buffer back");
     assert_eq!(rt; pair.least_step(1, 1), Some(3), "B tears the frame");
@@ -208,8 +175,8 @@ fn one_part_of_a_pair_steps_while_the_other_waits(rt: HostRuntime) {
 
 #[test]
 fn a_pair_of_pairs_is_a_pair(rt: HostRuntime) {
-    let left = beside(round(), round());
-    let right = beside(still(), round());
+    let left = beside(ROUND, ROUND);
+    let right = beside(STILL, ROUND);
     let pile = beside(left, right);
     assert_eq!(rt; pile.size(), size(8, 3));
     assert_eq!(rt;
@@ -228,20 +195,20 @@ fn a_part_without_states_leaves_a_pair_without(rt: HostRuntime) {
     let empty = Table {
         states: 0,
         props: 3,
-        steps: &ROUND,
-        holdings: &FIRST,
+        steps: ROUND.steps,
+        holdings: ROUND.holdings,
     };
     assert_eq!(rt; empty.size(), size(0, 3));
-    assert_eq!(rt; beside(empty, round()).size(), NOTHING);
-    assert_eq!(rt; beside(round(), empty).size(), NOTHING);
+    assert_eq!(rt; beside(empty, ROUND).size(), NOTHING);
+    assert_eq!(rt; beside(ROUND, empty).size(), NOTHING);
     let labelled = Table {
         states: 1,
         props: 64,
-        steps: &STILL,
+        steps: STILL.steps,
         holdings: &[],
     };
-    assert_eq!(rt; beside(labelled, round()).size(), NOTHING);
-    assert_eq!(rt; beside(labelled, still()).size(), size(1, 64));
+    assert_eq!(rt; beside(labelled, ROUND).size(), NOTHING);
+    assert_eq!(rt; beside(labelled, STILL).size(), size(1, 64));
 }
 
 #[test]
@@ -261,5 +228,5 @@ fn the_lowest_dead_end_is_named(rt: HostRuntime) {
     assert_eq!(rt; ModelFault::DeadEnd(2).number(), 2);
     assert_eq!(rt; ModelFault::DeadEnd(2).value(), 2);
     assert_eq!(rt; ModelFault::NoStates.number(), 1);
-    assert_eq!(rt; walkable(&beside(table, round())), Ok(()));
+    assert_eq!(rt; walkable(&beside(table, ROUND)), Ok(()));
 }

@@ -16,15 +16,11 @@ fn fill(input: &mut impl Read, buffer: &mut [u8; ROOM]) -> io::Result<usize>
     ensures { IfOk result (λ n. n ≤ 16385) }
 {
     let mut n = 0;
-    for _ in 0..ROOM {
-        if n >= ROOM {
-            break;
+    while n < ROOM {
+        match input.read(&mut buffer[n..])? {
+            0 => break,
+            more => n += more,
         }
-        let more = input.read(&mut buffer[n..])?;
-        if more == 0 {
-            break;
-        }
-        n += more;
     }
     Ok(n)
 }

@@ -1,100 +1,67 @@
 //! The task for a row and a level.
-ghost use Rattle.std.specs.Prelude.{◌≤◌, not, ◌&&◌};
+ghost use Rattle.std.specs.Prelude.{not, ◌&&◌};
 ghost use Rattle.engine.specs.Marks.{members};
 ghost use Rattle.engine.specs.Rounded.{Holds};
 ghost use Rattle.engine.specs.Satisfied.{asked, quantifier};
 ghost use Rattle.engine.specs.Shown.{Carries};
-ghost use Rattle.logic.specs.Searches.{meet_weak, break_weak, meet_task, break_task, task_of, neither};
-ghost use Rattle.logic.specs.Sets.{complement, union};
+ghost use Rattle.logic.specs.Searches.{meet_weak, break_weak, meet_task, break_task, task_of};
+ghost use Rattle.logic.specs.Sets.{complement};
 
 use super::Task;
+use crate::operands::Operands;
 use crate::operator::Operator;
-use crate::satisfy::mark_union;
 use crate::sets::StateSet;
+use model::interface::Model;
 use scale::reading::Reading;
 
-/// The first `n` states that the set has not.
-fn outside(n: u16, set: &StateSet) -> StateSet
-    requires { n ≤ 4096 }
-    ensures { Holds n (complement (members set.now)) result }
+/// The states that the set has not.
+fn outside<M: Model>(model: &M, set: &StateSet) -> StateSet
+    ensures { Holds (M.meaning model.now).states (complement (members set.now)) result }
 {
-    let mut out = StateSet::of(false);
-    mark_outside(n, set, &mut out);
-    out
-}
-
-/// Marks the first `n` states that the set has not.
-fn mark_outside(n: u16, set: &StateSet, out: &mut StateSet)
-    requires { n ≤ 4096 }
-    ensures { Holds n (complement (members set.now)) out.new }
-{
-    for s in 0..n as usize {
-        out.marks[s] = !set.marks[s];
-    }
-}
-
-/// The states of either set, among the first `n`.
-fn either(n: u16, a: &StateSet, b: &StateSet) -> StateSet
-    requires { n ≤ 4096 }
-    ensures { Holds n (union (members a.now) (members b.now)) result }
-{
-    let mut out = StateSet::of(false);
-    mark_union(n, a, b, &mut out);
-    out
-}
-
-/// The states of neither set, among the first `n`.
-fn none_of(n: u16, left: &StateSet, right: &StateSet) -> StateSet
-    requires { n ≤ 4096 }
-    ensures { Holds n (neither (members left.now) (members right.now)) result }
-{
-    let both = either(n, right, left);
-    outside(n, &both)
+    StateSet::such_that(model, |s| !set.has(s))
 }
 
 /// To meet a level with W.
-fn meet_weak(n: u16, reading: Reading, left: &StateSet, right: &StateSet) -> Task
-    requires { n ≤ 4096 }
-    ensures { Carries n (meet_weak reading (members left.now) (members right.now)) result }
+fn meet_weak<M: Model>(model: &M, reading: Reading, operands: Operands) -> Task
+    ensures { Carries (M.meaning model.now).states (meet_weak reading (members operands.entry.left.now) (members operands.entry.right.now)) result }
 {
     let all = StateSet::of(true);
     let none = StateSet::of(false);
     match reading {
         Reading::Sometime => Task {
-            a: either(n, right, left),
+            a: operands.either(model),
             b: all,
             c: none,
             settles: false,
         },
         Reading::InfinitelyOften => Task {
-            a: *right,
+            a: *operands.right,
             b: all,
-            c: *left,
+            c: *operands.left,
             settles: false,
         },
         Reading::EventuallyAlways => Task {
-            a: *right,
+            a: *operands.right,
             b: all,
-            c: *left,
+            c: *operands.left,
             settles: true,
         },
         Reading::Always => Task {
-            a: *right,
+            a: *operands.right,
             b: none,
-            c: *left,
+            c: *operands.left,
             settles: false,
         },
     }
 }
 
 /// To break a level with W.
-fn break_weak(n: u16, reading: Reading, left: &StateSet, right: &StateSet) -> Task
-    requires { n ≤ 4096 }
-    ensures { Carries n (break_weak reading (members left.now) (members right.now)) result }
+fn break_weak<M: Model>(model: &M, reading: Reading, operands: Operands) -> Task
+    ensures { Carries (M.meaning model.now).states (break_weak reading (members operands.entry.left.now) (members operands.entry.right.now)) result }
 {
     let none = StateSet::of(false);
-    let bad = none_of(n, left, right);
-    let free = outside(n, right);
+    let bad = operands.neither(model);
+    let free = outside(model, operands.right);
     match reading {
         Reading::Sometime => Task {
             a: none,
@@ -124,51 +91,55 @@ fn break_weak(n: u16, reading: Reading, left: &StateSet, right: &StateSet) -> Ta
 }
 
 /// To meet a level with any operator.
-fn meet(n: u16, operator: Operator, reading: Reading, left: &StateSet, right: &StateSet) -> Task
-    requires { n ≤ 4096 }
-    ensures { Carries n (meet_task (asked operator) reading (members left.now) (members right.now)) result }
+fn meet<M: Model>(model: &M, operator: Operator, reading: Reading, operands: Operands) -> Task
+    ensures { Carries (M.meaning model.now).states (meet_task (asked operator) reading (members operands.entry.left.now) (members operands.entry.right.now)) result }
 {
     let all = StateSet::of(true);
     let none = StateSet::of(false);
     match operator {
         Operator::Next => Task {
-            a: *left,
+            a: *operands.left,
             b: none,
             c: none,
             settles: false,
         },
         Operator::Finally => Task {
-            a: *left,
+            a: *operands.left,
             b: all,
             c: none,
             settles: false,
         },
-        Operator::Globally => meet_weak(n, reading, left, &none),
+        Operator::Globally => meet_weak(
+            model,
+            reading,
+            Operands {
+                right: &none,
+                ..operands
+            },
+        ),
         Operator::Until => Task {
-            a: *right,
-            b: *left,
+            a: *operands.right,
+            b: *operands.left,
             c: none,
             settles: false,
         },
-        Operator::Weak => meet_weak(n, reading, left, right),
+        Operator::Weak => meet_weak(model, reading, operands),
     }
 }
 
 /// To break a level with any operator.
-fn break_level(
-    n: u16,
+fn break_level<M: Model>(
+    model: &M,
     operator: Operator,
     reading: Reading,
-    left: &StateSet,
-    right: &StateSet,
+    operands: Operands,
 ) -> Task
-    requires { n ≤ 4096 }
-    ensures { Carries n (break_task (asked operator) reading (members left.now) (members right.now)) result }
+    ensures { Carries (M.meaning model.now).states (break_task (asked operator) reading (members operands.entry.left.now) (members operands.entry.right.now)) result }
 {
     let none = StateSet::of(false);
     match operator {
         Operator::Next => Task {
-            a: outside(n, left),
+            a: outside(model, operands.left),
             b: none,
             c: none,
             settles: false,
@@ -176,35 +147,40 @@ fn break_level(
         Operator::Finally => Task {
             a: none,
             b: none,
-            c: outside(n, left),
+            c: outside(model, operands.left),
             settles: false,
         },
-        Operator::Globally => break_weak(n, reading, left, &none),
+        Operator::Globally => break_weak(
+            model,
+            reading,
+            Operands {
+                right: &none,
+                ..operands
+            },
+        ),
         Operator::Until => Task {
-            a: none_of(n, left, right),
+            a: operands.neither(model),
             b: none,
-            c: outside(n, right),
+            c: outside(model, operands.right),
             settles: false,
         },
-        Operator::Weak => break_weak(n, reading, left, right),
+        Operator::Weak => break_weak(model, reading, operands),
     }
 }
 
 /// The task of a walk for an E row, which is to meet the level, or for an A row, which is to break it.
-pub(crate) fn task_of(
-    n: u16,
+pub(crate) fn task_of<M: Model>(
+    model: &M,
     some: bool,
     operator: Operator,
     reading: Reading,
-    left: &StateSet,
-    right: &StateSet,
+    operands: Operands,
 ) -> Task
-    requires { n ≤ 4096 }
-    ensures { Carries n (task_of (quantifier some) (asked operator) reading (members left.now) (members right.now)) result }
+    ensures { Carries (M.meaning model.now).states (task_of (quantifier some) (asked operator) reading (members operands.entry.left.now) (members operands.entry.right.now)) result }
 {
     if some {
-        meet(n, operator, reading, left, right)
+        meet(model, operator, reading, operands)
     } else {
-        break_level(n, operator, reading, left, right)
+        break_level(model, operator, reading, operands)
     }
 }

@@ -11,11 +11,14 @@ ghost use Rattle.sheet.specs.declared.row.Row.{Row as Record};
 use super::Sheet;
 use crate::fault::SheetFault;
 use crate::row::Row;
+use crate::sheet::lent::Lent;
 use crate::sheet::working::write;
 use model::check::walkable;
 use model::interface::Model;
 use scale::scales::Scale;
 
+// Model, scale and both buffers are parameters of each call and no field: the caller lends them anew each time. A stem and a loop
+// are answered as a pair of counts.
 impl Sheet {
     /// A sheet without rows over a model and a scale.
     pub fn open<M: Model, S: Scale>(model: &M, scale: &S) -> Result<Sheet, SheetFault>
@@ -44,8 +47,9 @@ impl Sheet {
         ensures sets { (n : ℕ) → result ≡ Ok n → RowReaches (M.meaning model.now) (S.grades scale.now) (seen self.old rows.old bytes.old) row (seen self.new rows.new bytes.new) n }
         ensures leaves { seen self.new rows.new bytes.new ≡ enter_leaves (M.meaning model.now) (S.grades scale.now) (seen self.old rows.old bytes.old) row }
     {
-        self.check(model, scale, rows, bytes, row)?;
-        let degrees = self.work_out(model, scale, bytes, row);
+        let degrees = self
+            .check(model, scale, rows, bytes, row)?
+            .work_out(model, scale);
         let count = self.rows;
         write(
             bytes,
@@ -80,11 +84,10 @@ impl Sheet {
         if row >= self.rows || state >= self.states {
             return Err(SheetFault::NoRow);
         }
-        let n = self.states as usize;
-        if bytes.len() < self.rows as usize * n {
+        if bytes.len() < self.rows as usize * self.states as usize {
             return Err(SheetFault::Short);
         }
-        let byte = bytes[row as usize * n + state as usize];
+        let byte = Lent { sheet: self, bytes }.byte(row, state);
         if byte > self.levels {
             return Err(SheetFault::Byte);
         }

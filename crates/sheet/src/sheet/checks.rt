@@ -1,15 +1,18 @@
 //! What `enter` checks before it works out a row.
-ghost use Rattle.std.specs.Prelude.{◌≡◌, ℕ, ◌+◌, ◌*◌, ◌<◌, ◌≤◌, List, length, Ok};
+ghost use Rattle.std.specs.Prelude.{◌≡◌, ℕ, ◌<◌, ◌≤◌, ◌==◌, true, false, List, length, Ok, IfOk, MatchOption};
 ghost use Rattle.sheet.specs.Calls.{entering, fitting, roomy, formed, sound, readable};
-ghost use Rattle.sheet.specs.Checks.{Earlier, Room, Ready};
+ghost use Rattle.sheet.specs.Checks.{Room, Ready};
 ghost use Rattle.sheet.specs.Faults.{answer};
+ghost use Rattle.sheet.specs.Kinds.{number_of};
+ghost use Rattle.sheet.specs.Over.{state_of, row_of, misplaced, outcome, Lends, Stands};
 ghost use Rattle.sheet.specs.States.{seen};
 ghost use Rattle.sheet.specs.declared.row.Row.{Row as Record};
 
 use super::Sheet;
 use crate::fault::SheetFault;
-use crate::kinds::{is_binary, operands};
+use crate::kinds::Kind;
 use crate::row::Row;
+use crate::sheet::lent::{Known, Lent};
 use model::check::walkable;
 use model::interface::Model;
 use scale::scales::Scale;
@@ -27,84 +30,97 @@ impl Sheet {
         Ok(())
     }
 
-    /// Is there room for one more row?
-    fn room(&self, rows: &[Row], bytes: &[u8]) -> Result<(), SheetFault>
-        ensures known { result ≡ Ok tt → Room self.now (length rows.now) (length bytes.now) }
-        ensures exact { answer result ≡ roomy (seen self.now rows.now bytes.now) }
+    /// The sheet with its bytes, if there is room for one more row.
+    fn room<'a>(&'a self, rows: &[Row], bytes: &'a [u8]) -> Result<Lent<'a>, SheetFault>
+        ensures known { IfOk result (λ x. Room self.now (length rows.now) (length bytes.now) × Lends x self.now bytes.now) }
+        ensures exact { outcome result ≡ roomy (seen self.now rows.now bytes.now) }
     {
         let count = self.rows as usize + 1;
         if self.rows >= 128 || rows.len() < count || bytes.len() < count * self.states as usize {
             return Err(SheetFault::Short);
         }
-        Ok(())
+        Ok(Lent { sheet: self, bytes })
     }
 
-    /// Has the row a kind, and are its proposition or its operands there?
-    fn form(&self, row: Row) -> Result<(), SheetFault>
-        ensures exact { (rs : List Record) (bs : List ℕ) → answer result ≡ formed (seen self.now rs bs) row }
-        ensures known { result ≡ Ok tt → Earlier self.now row }
-    {
-        let Some(count) = operands(row.kind) else {
-            return Err(SheetFault::Kind);
-        };
-        if row.kind == 1 && row.a >= self.props {
-            return Err(SheetFault::Prop);
-        }
-        let second = if count == 2 {
-            row.b >= self.rows
-        } else {
-            row.b != 0
-        };
-        if row.kind != 1 && row.a >= self.rows || second {
-            return Err(SheetFault::Operand);
-        }
-        Ok(())
-    }
-
-    /// Are the bytes of a row degrees?
-    fn degrees_only(&self, bytes: &[u8], row: u8) -> bool
-        requires { (row < self.now.rows) × (self.now.rows * self.now.states ≤ length bytes.now) }
-        ensures { (rs : List Record) → result ≡ sound (seen self.now rs bytes.now) row }
-    {
-        let start = row as usize * self.states as usize;
-        for s in 0..self.states as usize {
-            if bytes[start + s] > self.levels {
-                return false;
-            }
-        }
-        true
-    }
-
-    /// Are the bytes of the row's operands degrees?
-    pub(crate) fn read(&self, bytes: &[u8], row: Row) -> Result<(), SheetFault>
-        requires { (self.now.rows * self.now.states ≤ length bytes.now) × Earlier self.now row }
-        ensures { (rs : List Record) → answer result ≡ readable (seen self.now rs bytes.now) row }
-    {
-        if row.kind != 1 && !self.degrees_only(bytes, row.a) {
-            return Err(SheetFault::Byte);
-        }
-        if is_binary(row.kind) && !self.degrees_only(bytes, row.b) {
-            return Err(SheetFault::Byte);
-        }
-        Ok(())
-    }
-
-    /// All that `enter` checks, in its order.
-    pub(crate) fn check<M: Model, S: Scale>(
-        &self,
+    /// All that `enter` checks, in its order. Returns the row with its sheet and bytes.
+    pub(crate) fn check<'a, M: Model, S: Scale>(
+        &'a self,
         model: &M,
         scale: &S,
         rows: &[Row],
-        bytes: &[u8],
+        bytes: &'a [u8],
         row: Row,
-    ) -> Result<(), SheetFault>
-        ensures known { result ≡ Ok tt → Ready (M.meaning model.now) (S.grades scale.now) self.now rows.now bytes.now row }
-        ensures exact { answer result ≡ entering (M.meaning model.now) (S.grades scale.now) (seen self.now rows.now bytes.now) row }
+    ) -> Result<Known<'a>, SheetFault>
+        ensures known { IfOk result (λ x. Ready (M.meaning model.now) (S.grades scale.now) self.now rows.now bytes.now row × Stands x self.now bytes.now row) }
+        ensures exact { outcome result ≡ entering (M.meaning model.now) (S.grades scale.now) (seen self.now rows.now bytes.now) row }
     {
         self.fits(model, scale)?;
         walkable(model)?;
-        self.room(rows, bytes)?;
-        self.form(row)?;
-        self.read(bytes, row)
+        let lent = self.room(rows, bytes)?;
+        let known = lent.form(row)?;
+        known.read()?;
+        Ok(known)
+    }
+}
+
+impl<'a> Lent<'a> {
+    /// Are the bytes of a row degrees?
+    fn degrees_only(&self, row: u8) -> bool
+        requires { row < self.now.sheet.now.rows }
+        ensures { (rs : List Record) → result ≡ sound (state_of self.now rs) row }
+    {
+        let n = self.sheet.states as usize;
+        let start = row as usize * n;
+        let top = self.sheet.levels;
+        self.bytes[start..start + n].iter().all(|byte| *byte <= top)
+    }
+
+    /// The row over the sheet, if its operands are rows below `count` and an unused one is 0.
+    pub(crate) fn known(&self, kind: Kind, row: Row, count: u8) -> Option<Known<'a>>
+        requires { (number_of kind ≡ row.kind) × (count ≤ self.now.sheet.now.rows) }
+        ensures { MatchOption result (misplaced count row ≡ true) (λ x. (misplaced count row ≡ false) × Stands x self.now.sheet.now self.now.bytes.now row) }
+    {
+        let first = kind == Kind::Prop || row.a < count;
+        let second = if kind.is_binary() {
+            row.b < count
+        } else {
+            row.b == 0
+        };
+        if !(first && second) {
+            return None;
+        }
+        Some(Known {
+            lent: *self,
+            kind,
+            a: row.a,
+            b: row.b,
+        })
+    }
+
+    /// The row over the sheet, if it has a kind, and its proposition or its operands are there.
+    fn form(&self, row: Row) -> Result<Known<'a>, SheetFault>
+        ensures known { IfOk result (λ x. Stands x self.now.sheet.now self.now.bytes.now row) }
+        ensures exact { (rs : List Record) → outcome result ≡ formed (state_of self.now rs) row }
+    {
+        let kind = Kind::try_from(row.kind)?;
+        if kind == Kind::Prop && row.a >= self.sheet.props {
+            return Err(SheetFault::Prop);
+        }
+        self.known(kind, row, self.sheet.rows)
+            .ok_or(SheetFault::Operand)
+    }
+}
+
+impl Known<'_> {
+    /// Are the bytes of the row's operands degrees?
+    pub(crate) fn read(&self) -> Result<(), SheetFault>
+        ensures { (rs : List Record) → answer result ≡ readable (state_of self.now.lent rs) (row_of self.now) }
+    {
+        if self.kind != Kind::Prop && !self.lent.degrees_only(self.a)
+            || self.kind.is_binary() && !self.lent.degrees_only(self.b)
+        {
+            return Err(SheetFault::Byte);
+        }
+        Ok(())
     }
 }

@@ -1,29 +1,48 @@
 //! How `walk` checks a request, and looks for a walk.
-ghost use Rattle.std.specs.Prelude.{◌≡◌, ℕ, ◌+◌, ◌*◌, ◌<◌, ◌≤◌, List, length, Ok};
-ghost use Rattle.sheet.specs.Checks.{Earlier, ReadyToWalk};
-ghost use Rattle.sheet.specs.Faults.{answer};
-ghost use Rattle.sheet.specs.States.{seen};
+ghost use Rattle.std.specs.Prelude.{◌≡◌, ℕ, ◌*◌, ◌<◌, ◌≤◌, List, length, Ok, IfOk};
 ghost use Rattle.model.specs.Walkable.{Total};
-ghost use Rattle.sheet.specs.Walking.{record_of, asking, operands_now, leveled, walking, WantedBy, Seeks, Walks};
+ghost use Rattle.sheet.specs.Calls.{and_then};
+ghost use Rattle.sheet.specs.Checks.{ReadyToWalk};
+ghost use Rattle.sheet.specs.Faults.{answer};
+ghost use Rattle.sheet.specs.Kinds.{number_of};
+ghost use Rattle.sheet.specs.Over.{state_of, row_of, outcome, Lends, Stands};
+ghost use Rattle.sheet.specs.States.{seen};
+ghost use Rattle.sheet.specs.Walking.{record_of, present, roomy_now, asks_walks, operands_now, leveled, walking, WantedBy, Seeks, Walks};
 ghost use Rattle.sheet.specs.declared.row.Row.{Row as Record};
 
 use super::Sheet;
 use crate::fault::SheetFault;
-use crate::kinds::is_binary;
+use crate::kinds::Kind;
 use crate::row::Row;
-use crate::sheet::working::operator;
+use crate::sheet::lent::{Known, Lent};
+use engine::operands::Operands;
 use engine::walks::show;
 use model::check::walkable;
 use model::interface::Model;
 use scale::scales::Scale;
 
+/// The kind of a row that asks for walks.
+fn asking_kind(row: Row) -> Result<Kind, SheetFault>
+    ensures known { IfOk result (λ kind. (number_of kind ≡ row.kind) × (6 ≤ row.kind)) }
+    ensures exact { outcome result ≡ asks_walks row }
+{
+    match Kind::try_from(row.kind) {
+        Ok(kind) if kind.path().is_some() => Ok(kind),
+        _ => Err(SheetFault::NoPath),
+    }
+}
+
 impl Sheet {
-    /// Are the row and the state there, are the buffers long enough for the rows, and does the row ask for walks?
-    fn asks(&self, rows: &[Row], bytes: &[u8], row: u8, state: u16) -> Result<(), SheetFault>
-        ensures exact { answer result ≡ asking (seen self.now rows.now bytes.now) row state }
-        ensures there { result ≡ Ok tt → (row < self.now.rows) × (state < self.now.states) }
-        ensures long { result ≡ Ok tt → (self.now.rows ≤ length rows.now) × (self.now.rows * self.now.states ≤ length bytes.now) }
-        ensures path { result ≡ Ok tt → (6 ≤ (record_of (seen self.now rows.now bytes.now) row).kind) × ((record_of (seen self.now rows.now bytes.now) row).kind ≤ 15) }
+    /// The sheet with its bytes, if the row and the state are there and the buffers are long enough for the rows.
+    fn lend<'a>(
+        &'a self,
+        rows: &[Row],
+        bytes: &'a [u8],
+        row: u8,
+        state: u16,
+    ) -> Result<Lent<'a>, SheetFault>
+        ensures exact { outcome result ≡ and_then (present (seen self.now rows.now bytes.now) row state) (roomy_now (seen self.now rows.now bytes.now)) }
+        ensures known { IfOk result (λ x. (row < self.now.rows) × (state < self.now.states) × (self.now.rows ≤ length rows.now) × (self.now.rows * self.now.states ≤ length bytes.now) × Lends x self.now bytes.now) }
     {
         if row >= self.rows || state >= self.states {
             return Err(SheetFault::NoRow);
@@ -33,28 +52,7 @@ impl Sheet {
         {
             return Err(SheetFault::Short);
         }
-        let kind = rows[row as usize].kind;
-        if kind < 6 || kind > 15 {
-            return Err(SheetFault::NoPath);
-        }
-        Ok(())
-    }
-
-    /// Are the recorded operands of row `number` earlier rows, and their bytes degrees?
-    fn has_operands(&self, bytes: &[u8], number: u8, row: Row) -> Result<(), SheetFault>
-        requires { (number < self.now.rows) × (self.now.rows * self.now.states ≤ length bytes.now) × (6 ≤ row.kind) × (row.kind ≤ 15) }
-        ensures exact { (rs : List Record) → answer result ≡ operands_now (seen self.now rs bytes.now) number row }
-        ensures known { result ≡ Ok tt → Earlier self.now row }
-    {
-        let second = if is_binary(row.kind) {
-            row.b >= number
-        } else {
-            row.b != 0
-        };
-        if row.a >= number || second {
-            return Err(SheetFault::Byte);
-        }
-        self.read(bytes, row)
+        Ok(Lent { sheet: self, bytes })
     }
 
     /// Is there such a level, and room for a walk?
@@ -62,7 +60,7 @@ impl Sheet {
         ensures exact { (rs : List Record) (bs : List ℕ) → answer result ≡ leveled (seen self.now rs bs) level room }
         ensures known { result ≡ Ok tt → (1 ≤ level) × (level ≤ self.now.levels) × (2 * self.now.states ≤ room) }
     {
-        if level < 1 || level > self.levels {
+        if !(1..=self.levels).contains(&level) {
             return Err(SheetFault::Level);
         }
         if room < 2 * self.states as usize {
@@ -71,59 +69,27 @@ impl Sheet {
         Ok(())
     }
 
-    /// All that `walk` checks before it looks for a walk, in its order.
-    fn check_walk<M: Model, S: Scale>(
-        &self,
+    /// All that `walk` checks before it looks for a walk, in its order. Returns the row with its sheet and bytes.
+    fn check_walk<'a, M: Model, S: Scale>(
+        &'a self,
         model: &M,
         scale: &S,
         rows: &[Row],
-        bytes: &[u8],
+        bytes: &'a [u8],
         row: u8,
         state: u16,
         level: u8,
         room: usize,
-    ) -> Result<(), SheetFault>
-        ensures known { result ≡ Ok tt → ReadyToWalk (M.meaning model.now) (S.grades scale.now) self.now rows.now bytes.now row state level room }
-        ensures exact { answer result ≡ walking (M.meaning model.now) (S.grades scale.now) (seen self.now rows.now bytes.now) row state level room }
+    ) -> Result<Known<'a>, SheetFault>
+        ensures known { IfOk result (λ x. ReadyToWalk (M.meaning model.now) (S.grades scale.now) self.now rows.now bytes.now row state level room × Stands x self.now bytes.now (record_of (seen self.now rows.now bytes.now) row)) }
+        ensures exact { outcome result ≡ walking (M.meaning model.now) (S.grades scale.now) (seen self.now rows.now bytes.now) row state level room }
     {
         self.fits(model, scale)?;
         walkable(model)?;
-        self.asks(rows, bytes, row, state)?;
-        self.has_operands(bytes, row, rows[row as usize])?;
-        self.has_level(level, room)
-    }
-
-    /// Looks for a walk for a row of kind 6 to 15.
-    fn seek<M: Model, S: Scale>(
-        &self,
-        model: &M,
-        scale: &S,
-        bytes: &[u8],
-        row: Row,
-        state: u16,
-        level: u8,
-        out: &mut [u16],
-    ) -> Option<(u16, u16)>
-        requires sizes { ((M.meaning model.now).states ≡ self.now.states) × ((S.grades scale.now).levels ≡ self.now.levels) × Total (M.meaning model.now) }
-        requires request { (state < self.now.states) × (1 ≤ level) × (level ≤ self.now.levels) × (6 ≤ row.kind) × Earlier self.now row }
-        requires room { (self.now.rows * self.now.states ≤ length bytes.now) × (self.now.states ≤ length out.old) }
-        ensures { (rs : List Record) → Seeks (M.meaning model.now) (WantedBy (S.grades scale.now) (seen self.now rs bytes.now) row level) state out.old out.new result }
-    {
-        let left = self.reaching(bytes, row.a, level);
-        let right = self.second_reaching(bytes, row, level);
-        let Some(reading) = scale.reading(level) else {
-            return None;
-        };
-        show(
-            model,
-            row.kind < 11,
-            operator(row.kind),
-            reading,
-            &left,
-            &right,
-            state,
-            out,
-        )
+        let lent = self.lend(rows, bytes, row, state)?;
+        let known = lent.recorded(row, rows[row as usize])?;
+        self.has_level(level, room)?;
+        Ok(known)
     }
 
     /// Looks for a walk, and says so where there is none.
@@ -140,10 +106,49 @@ impl Sheet {
     ) -> Result<(u16, u16), SheetFault>
         ensures { Walks (M.meaning model.now) (S.grades scale.now) (seen self.now rows.now bytes.now) row state level out.old out.new (answer result) }
     {
-        self.check_walk(model, scale, rows, bytes, row, state, level, out.len())?;
-        match self.seek(model, scale, bytes, rows[row as usize], state, level, out) {
-            Some(counts) => Ok(counts),
-            None => Err(SheetFault::NoWalk),
-        }
+        self.check_walk(model, scale, rows, bytes, row, state, level, out.len())?
+            .seek(model, scale, state, level, out)
+            .ok_or(SheetFault::NoWalk)
+    }
+}
+
+impl<'a> Lent<'a> {
+    /// The recorded row `number`, if it asks for walks, its operands are earlier rows, and their bytes are degrees.
+    fn recorded(&self, number: u8, row: Row) -> Result<Known<'a>, SheetFault>
+        requires { number < self.now.sheet.now.rows }
+        ensures known { IfOk result (λ x. (6 ≤ row.kind) × Stands x self.now.sheet.now self.now.bytes.now row) }
+        ensures exact { (rs : List Record) → outcome result ≡ and_then (asks_walks row) (operands_now (state_of self.now rs) number row) }
+    {
+        let kind = asking_kind(row)?;
+        let known = self.known(kind, row, number).ok_or(SheetFault::Byte)?;
+        known.read()?;
+        Ok(known)
+    }
+}
+
+impl Known<'_> {
+    /// Looks for a walk that the row asks for.
+    fn seek<M: Model, S: Scale>(
+        &self,
+        model: &M,
+        scale: &S,
+        state: u16,
+        level: u8,
+        out: &mut [u16],
+    ) -> Option<(u16, u16)>
+        requires sizes { ((M.meaning model.now).states ≡ self.now.lent.sheet.now.states) × ((S.grades scale.now).levels ≡ self.now.lent.sheet.now.levels) × Total (M.meaning model.now) }
+        requires request { (state < self.now.lent.sheet.now.states) × (1 ≤ level) × (level ≤ self.now.lent.sheet.now.levels) }
+        requires room { self.now.lent.sheet.now.states ≤ length out.old }
+        ensures { (rs : List Record) → Seeks (M.meaning model.now) (WantedBy (S.grades scale.now) (state_of self.now.lent rs) (row_of self.now) level) state out.old out.new result }
+    {
+        let (some, operator) = self.kind.path()?;
+        let reading = scale.reading(level)?;
+        let left = self.lent.reaching(self.a, level);
+        let right = self.second_reaching(level);
+        let operands = Operands {
+            left: &left,
+            right: &right,
+        };
+        show(model, some, operator, reading, operands, state, out)
     }
 }

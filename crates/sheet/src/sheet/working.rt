@@ -1,197 +1,178 @@
 //! How `enter` works out a row.
-ghost use Rattle.std.specs.Prelude.{◌≡◌, ℕ, ◌+◌, ◌-◌, ◌*◌, ◌<◌, ◌≤◌, List, length, if◌then◌else◌, nat_lt, slice_index};
+ghost use Rattle.std.specs.Prelude.{◌≡◌, ◌≢◌, ℕ, ◌+◌, ◌*◌, ◌<◌, ◌≤◌, List, length, if◌then◌else◌, slice_index};
 ghost use Rattle.engine.specs.Marks.{members};
 ghost use Rattle.engine.specs.Rounded.{Holds};
-ghost use Rattle.engine.specs.Satisfied.{asked};
+ghost use Rattle.engine.specs.Satisfied.{asked, quantifier};
 ghost use Rattle.logic.specs.Kinds.{reach};
-ghost use Rattle.logic.specs.Satisfaction.{highest, row_degree};
+ghost use Rattle.logic.specs.Kinds.Kind.{path};
+ghost use Rattle.logic.specs.Satisfaction.{highest};
 ghost use Rattle.sheet.specs.Calls.{given, first_of, second_of, reaches, degrees_of, written};
-ghost use Rattle.sheet.specs.Checks.{Earlier};
-ghost use Rattle.sheet.specs.Kinds.{kind_of, operator_of};
-ghost use Rattle.sheet.specs.States.{seen};
+ghost use Rattle.sheet.specs.Kinds.{number_of, meant};
+ghost use Rattle.sheet.specs.Over.{state_of, row_of};
 ghost use Rattle.sheet.specs.declared.row.Row.{Row as Record};
 
-use super::Sheet;
-use crate::kinds::is_binary;
-use crate::row::Row;
+use crate::kinds::Kind;
+use crate::sheet::lent::{Known, Lent};
+use engine::operands::Operands;
 use engine::operator::Operator;
+use engine::per_state::PerState;
 use engine::satisfy::satisfy;
 use engine::sets::StateSet;
 use model::interface::Model;
 use scale::scales::Scale;
 
-/// The degree of a row that asks for no walk, at a state where its operands have these degrees.
-fn degree_at<M: Model, S: Scale>(model: &M, scale: &S, row: Row, s: u16, a: u8, b: u8) -> u8
-    requires { (1 ≤ row.kind) × (row.kind ≤ 5) }
-    ensures { (f h : ℕ → ℕ) → f s ≡ a → h s ≡ b → result ≡ row_degree (M.meaning model.now) (S.grades scale.now) (kind_of row.kind row.a) f h s }
-{
-    let top = scale.levels();
-    match row.kind {
-        1 => if model.holds(row.a, s) { top } else { 0 },
-        2 => if a >= b { a } else { b },
-        3 => if a >= b { b } else { a },
-        4 => if a >= top { 0 } else { top },
-        _ => if a <= b { top } else { b },
-    }
-}
-
 /// A degree for each state.
-#[derive(Clone, Copy)]
-pub(crate) struct Degrees {
-    of: [u8; 4096],
-}
+pub(crate) type Degrees = PerState<u8>;
 
-/// Raises the degree to the level where the set has the state.
-fn raise(n: u16, set: &StateSet, level: u8, degrees: &mut Degrees)
+/// The degrees, raised to the level where the set has the state.
+fn raised(n: u16, set: &StateSet, level: u8, degrees: &Degrees) -> Degrees
     requires { n ≤ 4096 }
-    ensures { (s : ℕ) → s < n → slice_index degrees.new.of s ≡ (if members set.now s then level else slice_index degrees.old.of s) }
+    ensures { (s : ℕ) → s < n → slice_index result.at s ≡ (if members set.now s then level else slice_index degrees.now.at s) }
 {
-    for s in 0..n {
+    Degrees::by(n, 0, |s| {
         if set.has(s) {
-            degrees.of[s as usize] = level;
+            level
+        } else {
+            degrees.at[s as usize]
         }
-    }
+    })
 }
 
 /// Writes the degrees of `n` states from place `start` on.
 pub(crate) fn write(bytes: &mut [u8], start: usize, n: u16, degrees: &Degrees)
     requires { (n ≤ 4096) × (start + n ≤ length bytes.old) }
-    ensures { bytes.new ≡ written bytes.old start n (λ s. slice_index degrees.now.of s) }
+    ensures { bytes.new ≡ written bytes.old start n (λ s. slice_index degrees.now.at s) }
 {
-    for s in 0..n as usize {
-        bytes[start + s] = degrees.of[s];
-    }
+    let n = n as usize;
+    bytes[start..start + n].copy_from_slice(&degrees.at[..n]);
 }
 
-/// What a row of kind 6 to 15 asks of a walk.
-pub(crate) fn operator(kind: u8) -> Operator
-    requires { (6 ≤ kind) × (kind ≤ 15) }
-    ensures { asked result ≡ operator_of (if nat_lt kind 11 then kind - 6 else kind - 11) }
-{
-    match kind {
-        6 | 11 => Operator::Next,
-        7 | 12 => Operator::Finally,
-        8 | 13 => Operator::Globally,
-        9 | 14 => Operator::Until,
-        _ => Operator::Weak,
+impl Lent<'_> {
+    /// The byte of a row at a state.
+    pub(crate) fn byte(&self, row: u8, s: u16) -> u8
+        requires { (row < self.now.sheet.now.rows) × (s < self.now.sheet.now.states) }
+        ensures { result ≡ slice_index self.now.bytes.now (row * self.now.sheet.now.states + s) }
+    {
+        self.bytes[row as usize * self.sheet.states as usize + s as usize]
     }
-}
 
-impl Sheet {
     /// The states at which a row reaches a level.
-    pub(crate) fn reaching(&self, bytes: &[u8], row: u8, level: u8) -> StateSet
-        requires { (row < self.now.rows) × (self.now.rows * self.now.states ≤ length bytes.now) × (1 ≤ level) }
-        ensures { (rs : List Record) (s : ℕ) → members result s ≡ reach (given (seen self.now rs bytes.now) row) level s }
+    pub(crate) fn reaching(&self, row: u8, level: u8) -> StateSet
+        requires { (row < self.now.sheet.now.rows) × (1 ≤ level) }
+        ensures { (rs : List Record) (s : ℕ) → members result s ≡ reach (given (state_of self.now rs) row) level s }
     {
-        let mut set = StateSet::of(false);
-        let start = row as usize * self.states as usize;
-        for s in 0..self.states {
-            set.put(s, bytes[start + s as usize] >= level);
-        }
-        set
+        StateSet::by(self.sheet.states, false, |s| self.byte(row, s) >= level)
     }
+}
 
+impl Known<'_> {
     /// The states at which the row's second operand reaches a level, none if it has no second operand.
-    pub(crate) fn second_reaching(&self, bytes: &[u8], row: Row, level: u8) -> StateSet
-        requires { (self.now.rows * self.now.states ≤ length bytes.now) × (1 ≤ level) × Earlier self.now row }
-        ensures { (rs : List Record) (s : ℕ) → members result s ≡ reach (second_of (seen self.now rs bytes.now) row) level s }
+    pub(crate) fn second_reaching(&self, level: u8) -> StateSet
+        requires { 1 ≤ level }
+        ensures { (rs : List Record) (s : ℕ) → members result s ≡ reach (second_of (state_of self.now.lent rs) (row_of self.now)) level s }
     {
-        if is_binary(row.kind) {
-            return self.reaching(bytes, row.b, level);
+        if self.kind.is_binary() {
+            return self.lent.reaching(self.b, level);
         }
         StateSet::of(false)
     }
 
-    /// The states at which the row, of kind 6 to 15, reaches a level.
+    /// The states at which the row reaches a level, where it asks this of some walk, or of every walk.
     fn level_set<M: Model, S: Scale>(
         &self,
         model: &M,
         scale: &S,
-        bytes: &[u8],
-        row: Row,
+        some: bool,
+        operator: Operator,
         level: u8,
     ) -> StateSet
-        requires { (self.now.rows * self.now.states ≤ length bytes.now) × (1 ≤ level) × (level ≤ (S.grades scale.now).levels) × (6 ≤ row.kind) × Earlier self.now row }
-        ensures { (rs : List Record) → Holds (M.meaning model.now).states (reaches (M.meaning model.now) (S.grades scale.now) (seen self.now rs bytes.now) row level) result }
+        requires { (1 ≤ level) × (level ≤ (S.grades scale.now).levels) × (meant self.now.kind self.now.a ≡ path (quantifier some) (asked operator)) }
+        ensures { (rs : List Record) → Holds (M.meaning model.now).states (reaches (M.meaning model.now) (S.grades scale.now) (state_of self.now.lent rs) (row_of self.now) level) result }
     {
-        let left = self.reaching(bytes, row.a, level);
-        let right = self.second_reaching(bytes, row, level);
+        let left = self.lent.reaching(self.a, level);
+        let right = self.second_reaching(level);
+        let operands = Operands {
+            left: &left,
+            right: &right,
+        };
         match scale.reading(level) {
-            Some(reading) => satisfy(
-                model,
-                row.kind < 11,
-                operator(row.kind),
-                reading,
-                &left,
-                &right,
-            ),
+            Some(reading) => satisfy(model, some, operator, reading, operands),
+            // A level on the scale has a reading, so no call comes here, and no caller is asked for the reading.
             None => left,
         }
     }
 
-    /// The degrees of a row of kind 6 to 15, level by level.
-    fn by_levels<M: Model, S: Scale>(&self, model: &M, scale: &S, bytes: &[u8], row: Row) -> Degrees
-        requires { (self.now.rows * self.now.states ≤ length bytes.now) × ((M.meaning model.now).states ≡ self.now.states) × ((S.grades scale.now).levels ≡ self.now.levels) × (6 ≤ row.kind) × Earlier self.now row }
-        ensures { (rs : List Record) (s : ℕ) → s < self.now.states → slice_index result.of s ≡ highest self.now.levels (λ l. reaches (M.meaning model.now) (S.grades scale.now) (seen self.now rs bytes.now) row l s) }
+    /// The degrees of a row that asks for walks, level by level.
+    fn by_levels<M: Model, S: Scale>(
+        &self,
+        model: &M,
+        scale: &S,
+        some: bool,
+        operator: Operator,
+    ) -> Degrees
+        requires sizes { ((M.meaning model.now).states ≡ self.now.lent.sheet.now.states) × ((S.grades scale.now).levels ≡ self.now.lent.sheet.now.levels) }
+        requires path { meant self.now.kind self.now.a ≡ path (quantifier some) (asked operator) }
+        ensures { (rs : List Record) (s : ℕ) → s < self.now.lent.sheet.now.states → slice_index result.at s ≡ degrees_of (M.meaning model.now) (S.grades scale.now) (state_of self.now.lent rs) (row_of self.now) s }
     {
-        let mut degrees = Degrees { of: [0; 4096] };
-        for below in 0..self.levels {
-            let set = self.level_set(model, scale, bytes, row, below + 1);
-            raise(self.states, &set, below + 1, &mut degrees);
+        let states = self.lent.sheet.states;
+        let mut degrees = Degrees::by(states, 0, |_| 0);
+        for level in 1..=self.lent.sheet.levels {
+            let set = self.level_set(model, scale, some, operator, level);
+            degrees = raised(states, &set, level, &degrees);
         }
         degrees
     }
 
-    /// The degree of the row's first operand at a state, 0 if it has none.
-    fn first_at(&self, bytes: &[u8], row: Row, s: u16) -> u8
-        requires { (self.now.rows * self.now.states ≤ length bytes.now) × (s < self.now.states) × Earlier self.now row }
-        ensures { (rs : List Record) → first_of (seen self.now rs bytes.now) row s ≡ result }
+    /// The degree of the row's first operand at a state, where it has one.
+    fn first_at(&self, s: u16) -> u8
+        requires { (s < self.now.lent.sheet.now.states) × (number_of self.now.kind ≢ 1) }
+        ensures { (rs : List Record) → first_of (state_of self.now.lent rs) (row_of self.now) s ≡ result }
     {
-        if row.kind == 1 {
-            return 0;
-        }
-        bytes[row.a as usize * self.states as usize + s as usize]
+        self.lent.byte(self.a, s)
     }
 
     /// The degree of the row's second operand at a state, 0 if it has none.
-    fn second_at(&self, bytes: &[u8], row: Row, s: u16) -> u8
-        requires { (self.now.rows * self.now.states ≤ length bytes.now) × (s < self.now.states) × Earlier self.now row }
-        ensures { (rs : List Record) → second_of (seen self.now rs bytes.now) row s ≡ result }
+    fn second_at(&self, s: u16) -> u8
+        requires { s < self.now.lent.sheet.now.states }
+        ensures { (rs : List Record) → second_of (state_of self.now.lent rs) (row_of self.now) s ≡ result }
     {
-        if is_binary(row.kind) {
-            return bytes[row.b as usize * self.states as usize + s as usize];
+        if self.kind.is_binary() {
+            return self.lent.byte(self.b, s);
         }
         0
     }
 
-    /// The degrees of a row of kind 1 to 5, state by state.
-    fn by_states<M: Model, S: Scale>(&self, model: &M, scale: &S, bytes: &[u8], row: Row) -> Degrees
-        requires { (self.now.rows * self.now.states ≤ length bytes.now) × (row.kind ≤ 5) × Earlier self.now row }
-        ensures { (rs : List Record) (s : ℕ) → s < self.now.states → slice_index result.of s ≡ degrees_of (M.meaning model.now) (S.grades scale.now) (seen self.now rs bytes.now) row s }
+    /// The degrees that a rule gives from the operands' degrees.
+    fn by_operands<R: Fn(u8, u8) -> u8>(&self, rule: R) -> Degrees
+        requires { (number_of self.now.kind ≢ 1) × R.IsAlwaysCallable rule }
+        ensures { (rs : List Record) (s : ℕ) → s < self.now.lent.sheet.now.states → R.post rule (first_of (state_of self.now.lent rs) (row_of self.now) s) (second_of (state_of self.now.lent rs) (row_of self.now) s) (slice_index result.at s) }
     {
-        let mut degrees = Degrees { of: [0; 4096] };
-        for s in 0..self.states {
-            let a = self.first_at(bytes, row, s);
-            let b = self.second_at(bytes, row, s);
-            degrees.of[s as usize] = degree_at(model, scale, row, s, a, b);
-        }
-        degrees
+        let states = self.lent.sheet.states;
+        Degrees::by(
+            states,
+            0,
+            |s|
+                requires { (s < self.now.lent.sheet.now.states) × (number_of self.now.kind ≢ 1) × R.IsAlwaysCallable rule }
+            { rule(self.first_at(s), self.second_at(s)) },
+        )
     }
 
-    /// The degrees of a row.
-    pub(crate) fn work_out<M: Model, S: Scale>(
-        &self,
-        model: &M,
-        scale: &S,
-        bytes: &[u8],
-        row: Row,
-    ) -> Degrees
-        requires { (self.now.rows * self.now.states ≤ length bytes.now) × ((M.meaning model.now).states ≡ self.now.states) × ((S.grades scale.now).levels ≡ self.now.levels) × Earlier self.now row }
-        ensures { (rs : List Record) (s : ℕ) → s < self.now.states → slice_index result.of s ≡ degrees_of (M.meaning model.now) (S.grades scale.now) (seen self.now rs bytes.now) row s }
+    /// The degrees of the row.
+    pub(crate) fn work_out<M: Model, S: Scale>(&self, model: &M, scale: &S) -> Degrees
+        requires { ((M.meaning model.now).states ≡ self.now.lent.sheet.now.states) × ((S.grades scale.now).levels ≡ self.now.lent.sheet.now.levels) }
+        ensures { (rs : List Record) (s : ℕ) → s < self.now.lent.sheet.now.states → slice_index result.at s ≡ degrees_of (M.meaning model.now) (S.grades scale.now) (state_of self.now.lent rs) (row_of self.now) s }
     {
-        if row.kind <= 5 {
-            return self.by_states(model, scale, bytes, row);
+        let top = scale.levels();
+        match self.kind {
+            Kind::Prop => Degrees::by(self.lent.sheet.states, 0, |s| {
+                if model.holds(self.a, s) { top } else { 0 }
+            }),
+            Kind::Or => self.by_operands(|a, b| a.max(b)),
+            Kind::And => self.by_operands(|a, b| a.min(b)),
+            Kind::Not => self.by_operands(|a, _| if a >= top { 0 } else { top }),
+            Kind::Imp => self.by_operands(|a, b| if a <= b { top } else { b }),
+            Kind::E(operator) => self.by_levels(model, scale, true, operator),
+            Kind::A(operator) => self.by_levels(model, scale, false, operator),
         }
-        self.by_levels(model, scale, bytes, row)
     }
 }

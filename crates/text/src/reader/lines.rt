@@ -1,16 +1,27 @@
 //! Lines.
-ghost use Rattle.std.specs.Prelude.{◌≡◌, ℕ, ◌+◌, ◌<◌, ◌≤◌, false, [], ◌∷◌, length, IfOk, codes, OnOk};
-ghost use Rattle.text.specs.Kept.{items_of};
-ghost use Rattle.text.specs.Lines.{end_at, head_at, pair_at, scale_at, source_at, step_at, holds_at, ask_at, rest_at, line_at, lines_at, with_steps, with_holdings, count};
+ghost use Rattle.std.specs.Prelude.{◌≡◌, ℕ, ◌+◌, ◌<◌, ◌≤◌, false, [], ◌∷◌, length, IfOk, codes, OnOk, Ok, Err, if◌then◌else◌, nat_le};
+ghost use Rattle.text.specs.Lines.{end_at, head_at, numbers_at, scale_at, source_at, step_at, holds_at, ask_at, rest_at, line_at, lines_at, with_steps, with_holdings, count, spare};
 ghost use Rattle.text.specs.Reads.{beside, with, within, and_then};
 ghost use Rattle.text.specs.Scripts.{said_in};
+ghost use Rattle.text.specs.declared.fault.ReadFault.TheVariants.{Many};
 ghost use Rattle.text.specs.declared.script.Source.TheVariants.{Table as OfTable};
 
-use super::{Reader, Span};
+use super::Reader;
 use crate::fault::ReadFault;
-use crate::kept::Kept;
 use crate::script::{Ask, Body, Source};
+use arrayvec::ArrayVec;
 use model::table::{Holding, Step};
+use std::ops::Range;
+
+/// `Ok` if the list has room for one item more, else the fault that the bracket at `place` is one too many.
+fn room<T, const N: usize>(list: &ArrayVec<T, N>, place: usize) -> Result<(), ReadFault>
+    ensures { result ≡ (if nat_le N (length list.now.items) then Err (Many place) else Ok tt) }
+{
+    if list.is_full() {
+        return Err(ReadFault::Many(place));
+    }
+    Ok(())
+}
 
 impl<'a> Reader<'a> {
     /// Takes the closing bracket of a line and the line's end.
@@ -23,10 +34,9 @@ impl<'a> Reader<'a> {
         Ok(())
     }
 
-    /// Takes a line's word and a gap. Then its bracket, at `place`, counts: it is too many where the list for it is full.
-    fn head(&mut self, word: &[u8], full: bool, place: usize) -> Result<(), ReadFault>
-        ensures reads { beside result self.new.rest.now ≡ head_at word.now full place self.old.rest.now }
-        ensures room { OnOk result (full ≡ false) }
+    /// Takes a line's word and a gap.
+    fn head(&mut self, word: &[u8]) -> Result<(), ReadFault>
+        ensures { beside result self.new.rest.now ≡ head_at word.now false 0 self.old.rest.now }
     {
         let Some(()) = self.word(word) else {
             return Err(self.unfit());
@@ -34,26 +44,14 @@ impl<'a> Reader<'a> {
         let Some(()) = self.gap() else {
             return Err(self.unfit());
         };
-        if full {
-            return Err(ReadFault::Many(place));
-        }
         Ok(())
     }
 
-    /// Takes a line of a word and two numbers, after its opening bracket, which is at `place`.
-    fn pair(
-        &mut self,
-        word: &[u8],
-        full: bool,
-        place: usize,
-        first: Span,
-        second: Span,
-    ) -> Result<(u16, u16), ReadFault>
-        ensures reads { beside result self.new.rest.now ≡ pair_at word.now full place (within first.low first.end) (within second.low second.end) self.old.rest.now }
-        ensures room { OnOk result (full ≡ false) }
+    /// Takes the two numbers of a line and the line's end.
+    fn pair(&mut self, first: Range<u16>, second: Range<u16>) -> Result<(u16, u16), ReadFault>
+        ensures reads { beside result self.new.rest.now ≡ numbers_at (within first.start first.end) (within second.start second.end) self.old.rest.now }
         ensures small { IfOk result (λ p. (p.0 < first.end) × (p.1 < second.end)) }
     {
-        self.head(word, full, place)?;
         let x = self.number(first)?;
         let Some(()) = self.gap() else {
             return Err(self.unfit());
@@ -67,17 +65,12 @@ impl<'a> Reader<'a> {
     pub(crate) fn scale(&mut self) -> Result<u8, ReadFault>
         ensures { beside result self.new.rest.now ≡ scale_at self.old.rest.now }
     {
-        let Some(()) = self.word(b"(scale") else {
-            return Err(self.unfit());
-        };
-        let Some(()) = self.gap() else {
-            return Err(self.unfit());
-        };
+        self.head(b"(scale")?;
         let place = self.rest.len();
         let Some(d) = self.numeral() else {
             return Err(self.unfit());
         };
-        if d != 1 && d != 4 {
+        if !matches!(d, 1 | 4) {
             return Err(ReadFault::Range(place));
         }
         self.end()?;
@@ -92,32 +85,28 @@ impl<'a> Reader<'a> {
             return Err(self.unfit());
         };
         if let Some(b't') = self.peek() {
-            let (n, p) = self.pair(
-                b"table",
-                false,
-                0,
-                Span { low: 1, end: 513 },
-                Span { low: 0, end: 65 },
-            )?;
+            self.head(b"table")?;
+            let (n, p) = self.pair(1..513, 0..65)?;
             return Ok(Source::Table(n, p as u8));
         }
-        let (k, g) = self.pair(
-            b"pool",
-            false,
-            0,
-            Span { low: 1, end: 5 },
-            Span { low: 0, end: 2 },
-        )?;
+        self.head(b"pool")?;
+        let (k, g) = self.pair(1..5, 0..2)?;
         Ok(Source::Pool(k as u8, g as u8))
     }
 
     /// Takes a step line of a table with `n` states, after its opening bracket, which is at `place`, and keeps the step.
-    fn step(&mut self, steps: &mut Kept<Step, 1024>, n: u16, place: usize) -> Result<(), ReadFault>
-        ensures reads { with result (items_of steps.new) self.new.rest.now ≡ step_at n place (items_of steps.old) self.old.rest.now }
-        ensures more { OnOk result (length (items_of steps.new) ≡ length (items_of steps.old) + 1) }
+    fn step(
+        &mut self,
+        steps: &mut ArrayVec<Step, 1024>,
+        n: u16,
+        place: usize,
+    ) -> Result<(), ReadFault>
+        ensures reads { with result steps.new.items self.new.rest.now ≡ step_at n place steps.old.items self.old.rest.now }
+        ensures more { OnOk result ((length steps.old.items < 1024) × (length steps.new.items ≡ length steps.old.items + 1)) }
     {
-        let states = Span { low: 0, end: n };
-        let (from, to) = self.pair(b"step", steps.len() >= 1024, place, states, states)?;
+        self.head(b"step")?;
+        room(steps, place)?;
+        let (from, to) = self.pair(0..n, 0..n)?;
         steps.push(Step { from, to });
         Ok(())
     }
@@ -125,20 +114,17 @@ impl<'a> Reader<'a> {
     /// Takes a holding line of a table with `n` states and `props` propositions, and keeps the holding.
     fn holds(
         &mut self,
-        holdings: &mut Kept<Holding, 1024>,
+        holdings: &mut ArrayVec<Holding, 1024>,
         n: u16,
         props: u8,
         place: usize,
     ) -> Result<(), ReadFault>
-        ensures reads { with result (items_of holdings.new) self.new.rest.now ≡ holds_at n props place (items_of holdings.old) self.old.rest.now }
-        ensures more { OnOk result (length (items_of holdings.new) ≡ length (items_of holdings.old) + 1) }
+        ensures reads { with result holdings.new.items self.new.rest.now ≡ holds_at n props place holdings.old.items self.old.rest.now }
+        ensures more { OnOk result ((length holdings.old.items < 1024) × (length holdings.new.items ≡ length holdings.old.items + 1)) }
     {
-        let full = holdings.len() >= 1024;
-        let named = Span {
-            low: 0,
-            end: props as u16,
-        };
-        let (prop, state) = self.pair(b"holds", full, place, named, Span { low: 0, end: n })?;
+        self.head(b"holds")?;
+        room(holdings, place)?;
+        let (prop, state) = self.pair(0..props as u16, 0..n)?;
         holdings.push(Holding {
             prop: prop as u8,
             state,
@@ -149,9 +135,10 @@ impl<'a> Reader<'a> {
     /// Takes an ask line, and keeps the ask and the rows of its formula.
     fn ask(&mut self, body: &mut Body, place: usize) -> Result<(), ReadFault>
         ensures reads { with result (said_in body.new) self.new.rest.now ≡ ask_at place (said_in body.old) self.old.rest.now }
-        ensures more { OnOk result (count (said_in body.new) ≡ count (said_in body.old) + 1) }
+        ensures more { OnOk result (spare (said_in body.new) + 1 ≡ spare (said_in body.old)) }
     {
-        self.head(b"ask", body.asks.len() >= 8, place)?;
+        self.head(b"ask")?;
+        room(&body.asks, place)?;
         let Some(state) = self.numeral() else {
             return Err(self.unfit());
         };
@@ -173,23 +160,19 @@ impl<'a> Reader<'a> {
         place: usize,
     ) -> Result<(), ReadFault>
         ensures reads { with result (said_in body.new) self.new.rest.now ≡ rest_at (OfTable n props) place (said_in body.old) self.old.rest.now }
-        ensures more { OnOk result (count (said_in body.new) ≡ count (said_in body.old) + 1) }
+        ensures more { OnOk result (spare (said_in body.new) + 1 ≡ spare (said_in body.old)) }
     {
-        if body.asks.len() == 0 {
-            if let Some(b's') = self.peek() {
-                return self.step(&mut body.steps, n, place);
-            }
-            if let Some(b'h') = self.peek() {
-                return self.holds(&mut body.holdings, n, props, place);
-            }
+        match self.peek() {
+            Some(b's') if body.asks.is_empty() => self.step(&mut body.steps, n, place),
+            Some(b'h') if body.asks.is_empty() => self.holds(&mut body.holdings, n, props, place),
+            _ => self.ask(body, place),
         }
-        self.ask(body, place)
     }
 
     /// Takes one line after the model's.
     fn line(&mut self, source: Source, body: &mut Body) -> Result<(), ReadFault>
         ensures reads { with result (said_in body.new) self.new.rest.now ≡ line_at source (said_in body.old) self.old.rest.now }
-        ensures more { OnOk result (count (said_in body.new) ≡ count (said_in body.old) + 1) }
+        ensures more { OnOk result (spare (said_in body.new) + 1 ≡ spare (said_in body.old)) }
     {
         let place = self.rest.len();
         let Some(()) = self.word(b"(") else {

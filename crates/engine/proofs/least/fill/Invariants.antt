@@ -1,8 +1,9 @@
-use Rattle.engine.specs.Rounded.{Joins, step_f}
+use Rattle.logic.specs.Sets.{Set}
+use Rattle.engine.specs.Rounded.{EachRound, Grows, Joins}
 use Rattle.engine.proofs.Growing.{Past}
 use Rattle.engine.proofs.least.fill.Given as goal
 
 abbrev pub invariant-loop-k : goal.invariant-loop-k
 invariant-loop-k g l =
-    Joins (g.M.Model.meaning l.model).states (step_f (g.M.Model.meaning l.model) l.some l.s1 l.s2) l.joined l.k
-    × Past (g.M.Model.meaning l.model).states l.joined l.k
+    let n = (g.M.Model.meaning l.model).states in
+    (f : Set → Set) → Grows n f → EachRound n f (goal.F-post g l.round) → Joins n f l.joined l.k × Past n l.joined l.k

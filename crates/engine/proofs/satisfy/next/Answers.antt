@@ -1,12 +1,14 @@
-use Rattle.std.proofs.Common.{◌∙◌, arith}
+use Rattle.std.proofs.Common.{◌≡◌, ◌∙◌, rules}
+use Rattle.logic.specs.FixedPoints.{pre}
 use Rattle.engine.specs.Marks.{members, before, ours}
 use Rattle.engine.proofs.Nesting.{pre_alike}
 use Rattle.engine.proofs.satisfy.next.Goals as goal
 
-pub join_first-requires : goal.join_first-requires
-join_first-requires g c = omega (arith, c.states.ensures, (g.M.Model.lawful c.args.model.now).few_states)
-
 pub returns : goal.returns
 returns g c =
-    λ s q. c.mark_pre.ensures s q
-    ∙ pre_alike (g.M.Model.meaning c.args.model.now) (ours c.args.some) (before c.join_first.new.joined 1) (members c.args.left.now) (λ t l. c.join_first.ensures t (omega (arith, c.states.ensures))) s
+    let m = g.M.Model.meaning c.args.model.now in
+    let T = before c.join_first-first.result 1 in
+    λ s q.
+    let h = c.such_that.ensures s q in
+    let e : members c.such_that.result s ≡ pre m (ours c.args.some) T s = search rules in
+    e ∙ pre_alike m (ours c.args.some) T (members c.args.left.now) c.join_first-first.ensures s

@@ -8,5 +8,5 @@ use Rattle.engine.proofs.satisfy.sometime.Goals as goal
 pub returns : goal.returns
 returns g c =
     λ s q. c.least_set.ensures s q
-    ∙ of_alike (g.M.Model.meaning c.args.model.now) c.args.some (members c.args.s1.now) full (members c.args.s1.now) (members c.of-all.result) (λ s q. refl)
-    (λ s q. everywhere c.of-all.result.marks true false _ s (g.M.Model.lawful c.args.model.now).few_states c.of-all.ensures q) s q
+    ∙ of_alike (g.M.Model.meaning c.args.model.now) c.args.some (members c.args.s1.now) full (members c.args.s1.now) (members c.of.result) (λ s q. refl)
+    (λ s q. everywhere c.of.result.at true false _ s (g.M.Model.lawful c.args.model.now).few_states c.of.ensures q) s q

@@ -1,27 +1,18 @@
-use Rattle.std.proofs.Common.{◌+◌, ◌*◌, ◌≤◌, Some, None, arith}
-use lib.Arith.{digits_lt}
-use Rattle.model.proofs.Paired.{least_quotient}
+use Rattle.std.proofs.Common.{◌≡◌, ◌+◌, ◌*◌, sym, subst, arith, rules}
+use Rattle.std.specs.Option.{option_map}
+use Rattle.model.specs.Meaning.{Least}
+use Rattle.model.proofs.Paired.{least_quotient, quotient_inside}
 use Rattle.model.proofs.pair.first_steps.Goals as goal
 
--- the state found is one of the pair
-inside : (g : _) (c : goal.In-Some g) → c.in-Some.k * c.args.width + c.args.j ≤ 4096
-inside g c =
-    let h = digits_lt {q = c.in-Some.k} {m = (g.M.Model.meaning c.args.part.now).states} {r = c.args.j} {c = c.args.width}
-    ((g.M.Model.lawful c.args.part.now).steps_to c.args.i c.in-Some.k c.in-Some.ensures.1) c.requires.0 in
-    omega arith
+pub map-requires : goal.map-requires
+map-requires g c =
+    λ k found.
+    let h = quotient_inside (g.M.Model.meaning c.args.part.now) (g.M.Model.lawful c.args.part.now) c.args.i _ c.args.width c.args.j c.requires.0 c.requires.1 c.least_step.result c.least_step.ensures k found in
+    (λ _ _ _ _ _. omega (arith, h), λ _ _ _ _ _ _. omega (arith, h))
 
-pub overflow_add-result : goal.overflow_add-result
-overflow_add-result g c = omega (arith, inside g c)
-
-pub overflow_mul-result : goal.overflow_mul-result
-overflow_mul-result g c = omega (arith, inside g c)
-
-pub returns-in-Some : goal.returns-in-Some
-returns-in-Some g c =
-    least_quotient c.args.t c.args.j c.args.width c.saturating_sub.result c.div_ceil-from.result c.requires.0 c.saturating_sub.ensures c.div_ceil-from.ensures
-    ((g.M.Model.meaning c.args.part.now).step c.args.i) (Some c.in-Some.k) c.in-Some.ensures
-
-pub returns-in-None : goal.returns-in-None
-returns-in-None g c =
-    least_quotient c.args.t c.args.j c.args.width c.saturating_sub.result c.div_ceil-from.result c.requires.0 c.saturating_sub.ensures c.div_ceil-from.ensures
-    ((g.M.Model.meaning c.args.part.now).step c.args.i) None c.in-None.ensures
+pub returns : goal.returns
+returns g c =
+    let same : c.map.result ≡ option_map (λ k. k * c.args.width + c.args.j) c.least_step.result = search rules in
+    subst (Least _ c.args.t) (sym same)
+    (least_quotient c.args.t c.args.j c.args.width c.saturating_sub.result c.div_ceil-from.result c.requires.0 c.saturating_sub.ensures c.div_ceil-from.ensures
+    ((g.M.Model.meaning c.args.part.now).step c.args.i) c.least_step.result c.least_step.ensures)

@@ -1,25 +1,30 @@
-use Rattle.std.proofs.Common.{◌≡◌, ℕ, zero, suc, ◌-◌, ◌<◌, ◌≤◌, ◌⊎◌, List, [], ◌∷◌, length, get_or, Some, None, refl, ap, ◌∙◌, inl, inr, ⊎_elim, arith}
+use Rattle.std.proofs.Common.{◌≡◌, ℕ, zero, suc, ◌<◌, ◌≤◌, ltb, List, [], ◌∷◌, length, get_or, is_some, Some, None, Option, slice_get, Bor, sym, refl, ap, ◌∙◌, arith}
+use Rattle.std.proofs.lemmas.Bool.Decides.{nat_tests}
+use Rattle.std.proofs.lemmas.Option.{slice_get_past, slice_get_read}
+use Rattle.std.specs.Option.{IfSome, option_copied}
 use Rattle.scale.specs.Grades.{reading_at}
 use Rattle.scale.specs.declared.reading.Reading.{Reading}
 use Rattle.scale.proofs.scales.reading_at.Goals as goal
 
-outside : (rs : List Reading) (l : ℕ) → (l ≡ 0) ⊎ (length rs < l) → None ≡ reading_at rs l
-outside [] l h = refl
-outside (r ∷ rs) zero h = refl
-outside (r ∷ rs) (suc zero) h = absurd (omega arith)
-outside (r ∷ rs) (suc (suc l)) h = outside rs (suc l) (inr (omega arith))
+none_below_one : (rs : List Reading) (l : ℕ) → l < 1 → None ≡ reading_at rs l
+none_below_one [] l h = refl
+none_below_one (r ∷ rs) zero h = refl
+none_below_one (r ∷ rs) (suc l) h = absurd (omega arith)
 
-inside : (rs : List Reading) (k : ℕ) (d : Reading) → suc k ≤ length rs → Some (get_or rs k d) ≡ reading_at rs (suc k)
-inside [] k d h = absurd (omega arith)
-inside (r ∷ rs) zero d h = refl
-inside (r ∷ rs) (suc k) d h = inside rs k d (omega arith)
+from_one : (rs : List Reading) (k : ℕ) → slice_get rs k ≡ reading_at rs (suc k)
+from_one [] k = refl
+from_one (r ∷ rs) zero = refl
+from_one (r ∷ rs) (suc k) = from_one rs k
 
-at_level : (rs : List Reading) (l : ℕ) (d : Reading) → (l ≡ 0 → ⊥) → l ≤ length rs → Some (get_or rs (l - 1) d) ≡ reading_at rs l
-at_level rs zero d some h = absurd (some refl)
-at_level rs (suc k) d some h = let e : suc k - 1 ≡ k = omega arith in ap (λ i. Some (get_or rs i d)) e ∙ inside rs k d h
+looked_up : (rs : List Reading) (k : ℕ) (o : Option (Bor Reading)) → is_some o ≡ ltb k (length rs) → IfSome o (λ x. x.now ≡ get_or rs k x.now) → option_copied o ≡ slice_get rs k
+looked_up rs k None e h = let past : length rs ≤ k = grind (arith, nat_tests) in sym (slice_get_past rs k past)
+looked_up rs k (Some x) e h = let lt : k < length rs = grind (arith, nat_tests) in sym (slice_get_read rs (length rs) k x.now refl lt h)
 
-pub returns-then-n-eq0 : goal.returns-then-n-eq0
-returns-then-n-eq0 c = outside c.args.readings.now c.args.level (⊎_elim inl (λ h. inr h.1) c.then-n-eq0.either)
+pub returns-in_err-index : goal.returns-in_err-index
+returns-in_err-index c = c.from_residual.ensures ∙ none_below_one c.args.readings.now c.args.level (grind (arith, c.in_err-index.ensures))
 
 pub returns : goal.returns
-returns c = at_level c.args.readings.now c.args.level _ c.if-n-eq0.false c.if-n-readings.false
+returns c =
+    let found : c.copied.result ≡ slice_get c.args.readings.now c.in_ok-index.index = c.copied.ensures ∙ looked_up _ _ c.get.result c.get.ensures.lookup.0 c.get.ensures.lookup.1 in
+    let next : suc c.in_ok-index.index ≡ c.args.level = grind (arith, c.in_ok-index.ensures) in
+    found ∙ from_one c.args.readings.now c.in_ok-index.index ∙ ap (reading_at c.args.readings.now) next

@@ -1,17 +1,15 @@
-use Rattle.std.proofs.Common.{◌≡◌, ℕ, ◌+◌, Bool, true, false, sym, add-one, arith}
-use Rattle.tour.specs.Tally.{tally}
+use borrow.Author.Tests.{tests}
+use Rattle.std.proofs.Common.{◌∙◌, rules, arith}
+use Rattle.std.proofs.lemmas.Iterator.{YieldsList-from_range}
+use Rattle.std.proofs.lemmas.Iterator.Consumers.{YieldsList-from_filter, count_from_yields_List}
+use Rattle.std.proofs.lemmas.List.Sums.{length-filter}
+use Rattle.tour.proofs.Counting.{counted}
 use Rattle.tour.proofs.show.count.Goals as goal
-use Rattle.tour.proofs.show.count.Goals.{then-holds, else-holds}
 
-one_more : (s k k' : ℕ) (passes : ℕ → Bool) → passes s ≡ true → k ≡ tally s passes → k' ≡ k + 1 → k' ≡ tally (s + 1) passes
-one_more s k k' passes t e f = rw add-one (simp t (omega arith))
-
-none_more : (s k k' : ℕ) (passes : ℕ → Bool) → passes s ≡ false → k ≡ tally s passes → k' ≡ k → k' ≡ tally (s + 1) passes
-none_more s k k' passes t e f = rw add-one (simp t (omega arith))
-
-pub loop-s-preserved : goal.loop-s-preserved
-loop-s-preserved g c =
-    elim c.if-holds.branch [
-      | then-holds w ↦ (omega (arith, w.k-is), one_more c.loop-s.s c.loop-s.k c.if-holds.k _ (sym w.if-holds.ensures) c.loop-s.invariant.1 w.k-is)
-      | else-holds w ↦ (omega (arith, w.k-is), none_more c.loop-s.s c.loop-s.k c.if-holds.k _ (sym w.if-holds.ensures) c.loop-s.invariant.1 w.k-is)
-    ]
+pub returns : goal.returns
+returns g c =
+    let m = g.M.Model.meaning c.args.model.now in
+    let passes = m.holds c.args.p in
+    count_from_yields_List c.filter.result _ c.count.ensures.ran
+    (YieldsList-from_filter _ passes (YieldsList-from_range 0 c.states.result m.states c.filter.ensures.source (omega (arith, c.states.ensures))) c.filter.ensures.closure (λ x r q k. search (rules, tests)))
+    ∙ length-filter passes _ ∙ counted passes m.states

@@ -1,18 +1,8 @@
-use Rattle.std.proofs.Common.{◌≡◌, ◌+◌, ◌*◌, ◌/◌, ◌%◌, ◌<◌, ◌≤◌, ◌&&◌, eqb, sym, subst, arith, rules}
+use Rattle.std.proofs.Common.{◌≡◌, ◌/◌, ◌%◌, ◌<◌, ◌&&◌, eqb, sym, subst, arith, rules}
 use Rattle.model.specs.Meaning.{Least}
 use Rattle.model.specs.Pairs.{paired}
-use Rattle.model.proofs.Paired.{row_fits, whole, wide, paired-least}
+use Rattle.model.proofs.Paired.{paired-least}
 use Rattle.model.proofs.pair.PairFiniteModel.least_step.Goals as goal
-
-pub second_steps-requires : goal.second_steps-requires
-second_steps-requires g c =
-    let a = g.A.Model.meaning c.args.self.now.first in
-    let b = g.B.Model.meaning c.args.self.now.second in
-    let same : c.joined.result.states ≡ (paired a b).states = search rules in
-    let lt : c.args.s < (paired a b).states = omega arith in
-    let w = whole a b (g.A.Model.lawful _) (g.B.Model.lawful _) c.args.s lt in
-    let pos = wide a b (g.A.Model.lawful _) (g.B.Model.lawful _) c.args.s lt in
-    (sym c.size-b.ensures.states, omega arith, subst (λ n. c.args.s / n * n + n ≤ 4096) (sym c.size-b.ensures.states) (row_fits c.args.s a.states b.states w.0 w.1 pos))
 
 pub returns : goal.returns
 returns g c =

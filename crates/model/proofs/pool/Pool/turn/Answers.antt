@@ -1,8 +1,8 @@
-use Rattle.std.proofs.Common.{◌≡◌, ℕ, ◌+◌, ◌-◌, cond, eqb, sym, ap, ◌∙◌, arith}
-use Rattle.std.proofs.lemmas.Bool.{and_parts, and_from, eqb-true, eq-eqb, both_ways}
+use Rattle.std.proofs.Common.{◌≡◌, ℕ, ◌+◌, ◌-◌, cond, sym, ap, ◌∙◌, arith}
+use Rattle.std.proofs.lemmas.Bool.{and_from, eq-eqb, both_ways}
 use Rattle.model.specs.Pools.{digit, share, holder}
 use Rattle.model.specs.declared.pool.Thread.{Thread}
-use Rattle.model.proofs.Pooled.{few, moves_to, leads-guarded, leads_only, leads_there}
+use Rattle.model.proofs.Pooled.{few, moves_to, leads_only, leads_there}
 use Rattle.model.proofs.pool.Pool.turn.Goals as goal
 
 -- the digit moved to, in the definition's words
@@ -14,13 +14,6 @@ with_digit-u-requires c =
     let m = moves_to c.args.x (digit c.args.i c.args.s) c.moved-e.result (omega arith) (turned _ _ _ _ c.digit_of.ensures c.moved-e.ensures) in
     let f = few c.args.self.now.buffers c.requires.1 in
     (omega arith, omega arith, m.1)
-
-pub returns-then-forbids : goal.returns-then-forbids
-returns-then-forbids c =
-    λ u h e.
-    let no = and_parts (eqb c.args.self.now.guard 1) (eqb c.moved-e.result 3) (sym c.if-forbids.ensures) in
-    leads-guarded c.args.self.now.buffers c.args.self.now.guard c.args.x c.args.i c.args.s c.moved-e.result
-    (turned _ _ _ _ c.digit_of.ensures c.moved-e.ensures) u e (eqb-true _ _ no.0) (eqb-true _ _ no.1)
 
 pub returns-then-u-t : goal.returns-then-u-t
 returns-then-u-t c =

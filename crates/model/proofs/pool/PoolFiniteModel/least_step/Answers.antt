@@ -1,25 +1,27 @@
-use Rattle.std.proofs.Common.{◌≡◌, ◌^◌, ◌<◌, ◌&&◌, ◌||◌, ltb, sym, refl, ap, ◌∙◌, subst, arith}
+use Rattle.std.proofs.Common.{◌≡◌, ℕ, ◌^◌, ◌<◌, min, Bool, ◌||◌, sym, refl, ◌∙◌, subst, rules, arith}
+use Rattle.std.specs.List.{reduce, range_with_len, filter_map}
+use Rattle.std.proofs.lemmas.Iterator.{YieldsList-from_range}
+use Rattle.std.proofs.lemmas.Iterator.Adapters.{option_map_id}
+use Rattle.std.proofs.lemmas.Iterator.Consumers.{YieldsList-from_filter_map, min_from_yields_List}
 use Rattle.model.specs.Below.{some}
-use Rattle.model.specs.Lesser.{lesser_of}
 use Rattle.model.specs.Meaning.{Least}
 use Rattle.model.specs.Pools.{leads, pooled}
 use Rattle.model.specs.declared.pool.Thread.TheVariants.{A, B}
+use Rattle.model.proofs.Least.{least_one}
 use Rattle.model.proofs.Limited.{limited-least}
-use Rattle.model.proofs.Pooled.{pool_whole, buffer_more}
+use Rattle.model.proofs.Pooled.{pool_whole}
+use Rattle.model.proofs.Ranged.{least_of, least_of-least, least_ranged}
 use Rattle.model.proofs.pool.PoolFiniteModel.least_step.Goals as goal
-
-pub loop-i-preserved : goal.loop-i-preserved
-loop-i-preserved c =
-    let k = c.args.self.now.buffers in let g = c.args.self.now.guard in let s = c.args.s in let i = c.loop-i.i in
-    subst (Least _ c.args.t) (sym (c.lesser_of-least-in-loop-i.ensures ∙ ap (λ r. lesser_of r c.turn-in-loop-i.result) c.lesser_of-least.ensures))
-    (buffer_more (4 ^ k) i c.args.t (leads k g A i s) (leads k g B i s) (λ j u. leads k g A j s u || leads k g B j s u)
-    c.loop-i.least c.turn.result c.turn-in-loop-i.result c.loop-i.invariant c.turn.ensures c.turn-in-loop-i.ensures (λ u. refl))
 
 pub returns : goal.returns
 returns c =
     let k = c.args.self.now.buffers in let g = c.args.self.now.guard in let s = c.args.s in
-    let lt : c.args.s < (pooled c.args.self.now.buffers c.args.self.now.guard).states = omega arith in
+    let goes : ℕ → ℕ → Bool = λ i u. leads k g A i s u || leads k g B i s u in
+    let lt : s < (pooled k g).states = omega arith in
     let whole = pool_whole k g s lt in
-    let all : c.loop-i.i ≡ c.args.self.now.buffers = omega arith in
-    limited-least (pooled k g) (λ u. some k (λ j. leads k g A j s u || leads k g B j s u)) s c.args.t (4 ^ k) c.loop-i.least (λ u. refl) whole.1 (subst (λ n. s < n) (sym whole.1) lt)
-    (subst (λ i. Least (λ u. ltb u (4 ^ k) && some i (λ j. leads k g A j s u || leads k g B j s u)) c.args.t c.loop-i.least) all c.loop-i.invariant)
+    let found : c.min.result ≡ reduce min (filter_map (λ i. least_of (goes i) (4 ^ k) c.args.t) (range_with_len 0 k)) =
+    sym (option_map_id c.min.result) ∙ min_from_yields_List c.filter_map.result c.min.result c.min.ensures.ran
+    (YieldsList-from_filter_map _ (λ i. least_of (goes i) (4 ^ k) c.args.t) (YieldsList-from_range 0 k k c.filter_map.ensures.source (omega arith)) c.filter_map.ensures.closure
+    (λ i r q h. (search rules, least_one _ c.args.t r _ (search rules) (least_of-least (goes i) (4 ^ k) c.args.t)))) in
+    limited-least (pooled k g) (λ u. some k (λ j. goes j u)) s c.args.t (4 ^ k) c.min.result (λ u. refl) whole.1 (subst (λ n. s < n) (sym whole.1) lt)
+    (subst (Least _ c.args.t) (sym found) (least_ranged (4 ^ k) c.args.t goes k))

@@ -1,61 +1,62 @@
-use Rattle.std.proofs.Common.{refl}
 use Rattle.std.proofs.lemmas.Result.{err_from_is_err_and}
-use Rattle.sheet.proofs.Exits.{stops, goes, never_ok}
+use Rattle.std.proofs.Common.{ap, ◌∙◌}
+use Rattle.sheet.specs.Calls.{and_then}
+use Rattle.sheet.specs.States.{State, seen}
+use Rattle.sheet.specs.Walking.{record_of, present, roomy_now, asks_walks, operands_now, leveled}
+use Rattle.sheet.proofs.Exits.{stops, goes, regrouped}
+use Rattle.sheet.proofs.Over.{state_is}
 use Rattle.sheet.proofs.sheet.Sheet.check_walk.Goals as goal
 
-pub returns-in_err-fits : goal.returns-in_err-fits
-returns-in_err-fits g c =
+pub returns-in_err-fits-clause-exact : goal.returns-in_err-fits-clause-exact
+returns-in_err-fits-clause-exact g c =
     let p = err_from_is_err_and c.from_residual.result c.from_residual.ensures.1 in
-    record {
-      known = never_ok c.from_residual.result c.from_residual.ensures.0;
-      exact = rw (p.1, p.2) (stops _ _ _ (c.in_err-fits.ensures.exact c.args.rows.now c.args.bytes.now));
-    }
+    rw (p.1, p.2) (stops _ _ _ (c.in_err-fits.ensures.exact c.args.rows.now c.args.bytes.now))
 
-pub returns-in_err-walkable : goal.returns-in_err-walkable
-returns-in_err-walkable g c =
+pub returns-in_err-walkable-clause-exact : goal.returns-in_err-walkable-clause-exact
+returns-in_err-walkable-clause-exact g c =
     let p = err_from_is_err_and c.from_residual-in_err-walkable.result c.from_residual-in_err-walkable.ensures.1 in
-    record {
-      known = never_ok c.from_residual-in_err-walkable.result c.from_residual-in_err-walkable.ensures.0;
-      exact = rw (p.1, p.2) (goes _ _ _ _ (c.in_ok-fits.ensures.exact c.args.rows.now c.args.bytes.now) (stops _ _ _ c.in_err-walkable.ensures.exact));
-    }
+    rw (p.1, p.2) (goes _ _ _ _ (c.in_ok-fits.ensures.exact c.args.rows.now c.args.bytes.now) (stops _ _ _ c.in_err-walkable.ensures.exact))
 
-pub returns-in_err-asks : goal.returns-in_err-asks
-returns-in_err-asks g c =
-    let p = err_from_is_err_and c.from_residual-in_err-asks.result c.from_residual-in_err-asks.ensures.1 in
-    record {
-      known = never_ok c.from_residual-in_err-asks.result c.from_residual-in_err-asks.ensures.0;
-      exact = rw (p.1, p.2) (goes _ _ _ _ (c.in_ok-fits.ensures.exact c.args.rows.now c.args.bytes.now) (goes _ _ _ _ c.in_ok-walkable.ensures.exact (stops _ _ _ c.in_err-asks.ensures.exact)));
-    }
+pub returns-in_err-lent-clause-exact : goal.returns-in_err-lent-clause-exact
+returns-in_err-lent-clause-exact g c =
+    let p = err_from_is_err_and c.from_residual-in_err-lent.result c.from_residual-in_err-lent.ensures.1 in
+    let s = seen c.args.self.now c.args.rows.now c.args.bytes.now in
+    let x = record_of s c.args.row in
+    rw (p.1, p.2)
+    (goes _ _ _ _ (c.in_ok-fits.ensures.exact c.args.rows.now c.args.bytes.now)
+    (goes _ _ _ _ c.in_ok-walkable.ensures.exact
+    (stops _ _ _ c.in_err-lent.ensures.exact ∙ regrouped (present s c.args.row c.args.state) (roomy_now s) (asks_walks x) (operands_now s c.args.row x) (leveled s c.args.level c.args.room))))
 
-pub returns-in_err-has_operands : goal.returns-in_err-has_operands
-returns-in_err-has_operands g c =
-    let p = err_from_is_err_and c.from_residual-in_err-has_operands.result c.from_residual-in_err-has_operands.ensures.1 in
-    record {
-      known = never_ok c.from_residual-in_err-has_operands.result c.from_residual-in_err-has_operands.ensures.0;
-      exact = rw (p.1, p.2) (goes _ _ _ _ (c.in_ok-fits.ensures.exact c.args.rows.now c.args.bytes.now) (goes _ _ _ _ c.in_ok-walkable.ensures.exact (goes _ _ _ _ c.in_ok-asks.ensures.exact (stops _ _ _ (c.in_err-has_operands.ensures.exact c.args.rows.now)))));
-    }
+pub returns-in_err-known-clause-exact : goal.returns-in_err-known-clause-exact
+returns-in_err-known-clause-exact g c =
+    let p = err_from_is_err_and c.from_residual-in_err-known.result c.from_residual-in_err-known.ensures.1 in
+    let s = seen c.args.self.now c.args.rows.now c.args.bytes.now in
+    let x = record_of s c.args.row in
+    let there = ap (λ (s : State). and_then (asks_walks x) (operands_now s c.args.row x)) (state_is _ _ _ c.args.rows.now c.in_ok-lent.ensures.known.4) in
+    rw (p.1, p.2)
+    (goes _ _ _ _ (c.in_ok-fits.ensures.exact c.args.rows.now c.args.bytes.now)
+    (goes _ _ _ _ c.in_ok-walkable.ensures.exact
+    (goes _ _ _ _ c.in_ok-lent.ensures.exact (stops _ _ _ (c.in_err-known.ensures.exact c.args.rows.now ∙ there))
+    ∙ regrouped (present s c.args.row c.args.state) (roomy_now s) (asks_walks x) (operands_now s c.args.row x) (leveled s c.args.level c.args.room))))
 
-pub returns : goal.returns
-returns g c =
-    let sizes = c.in_ok-fits.ensures.known refl in
-    let there = c.in_ok-asks.ensures.there refl in
-    let long = c.in_ok-asks.ensures.long refl in
-    record {
-      known = λ q.
-          let level = c.has_level.ensures.known q in
-          record {
-            same_states = sizes.0;
-            same_levels = sizes.1;
-            total = c.in_ok-walkable.ensures.means.1;
-            row = there.0;
-            state = there.1;
-            records = long.0;
-            bytes = long.1;
-            path = (c.in_ok-asks.ensures.path refl).0;
-            earlier = c.in_ok-has_operands.ensures.known refl;
-            some_level = level.0;
-            last_level = level.1;
-            room = level.2;
-          };
-      exact = goes _ _ _ _ (c.in_ok-fits.ensures.exact c.args.rows.now c.args.bytes.now) (goes _ _ _ _ c.in_ok-walkable.ensures.exact (goes _ _ _ _ c.in_ok-asks.ensures.exact (goes _ _ _ _ (c.in_ok-has_operands.ensures.exact c.args.rows.now) (c.has_level.ensures.exact c.args.rows.now c.args.bytes.now))));
-    }
+pub returns-in_err-has_level-clause-exact : goal.returns-in_err-has_level-clause-exact
+returns-in_err-has_level-clause-exact g c =
+    let p = err_from_is_err_and c.from_residual-in_err-has_level.result c.from_residual-in_err-has_level.ensures.1 in
+    let s = seen c.args.self.now c.args.rows.now c.args.bytes.now in
+    let x = record_of s c.args.row in
+    let there = ap (λ (s : State). and_then (asks_walks x) (operands_now s c.args.row x)) (state_is _ _ _ c.args.rows.now c.in_ok-lent.ensures.known.4) in
+    rw (p.1, p.2)
+    (goes _ _ _ _ (c.in_ok-fits.ensures.exact c.args.rows.now c.args.bytes.now)
+    (goes _ _ _ _ c.in_ok-walkable.ensures.exact
+    (goes _ _ _ _ c.in_ok-lent.ensures.exact (goes _ _ _ _ (c.in_ok-known.ensures.exact c.args.rows.now ∙ there) (c.in_err-has_level.ensures.exact c.args.rows.now c.args.bytes.now))
+    ∙ regrouped (present s c.args.row c.args.state) (roomy_now s) (asks_walks x) (operands_now s c.args.row x) (leveled s c.args.level c.args.room))))
+
+pub returns-clause-exact : goal.returns-clause-exact
+returns-clause-exact g c =
+    let s = seen c.args.self.now c.args.rows.now c.args.bytes.now in
+    let x = record_of s c.args.row in
+    let there = ap (λ (s : State). and_then (asks_walks x) (operands_now s c.args.row x)) (state_is _ _ _ c.args.rows.now c.in_ok-lent.ensures.known.4) in
+    goes _ _ _ _ (c.in_ok-fits.ensures.exact c.args.rows.now c.args.bytes.now)
+    (goes _ _ _ _ c.in_ok-walkable.ensures.exact
+    (goes _ _ _ _ c.in_ok-lent.ensures.exact (goes _ _ _ _ (c.in_ok-known.ensures.exact c.args.rows.now ∙ there) (c.in_ok-has_level.ensures.exact c.args.rows.now c.args.bytes.now))
+    ∙ regrouped (present s c.args.row c.args.state) (roomy_now s) (asks_walks x) (operands_now s c.args.row x) (leveled s c.args.level c.args.room)))

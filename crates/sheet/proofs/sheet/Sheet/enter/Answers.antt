@@ -5,6 +5,7 @@ use Rattle.sheet.specs.Kinds.{kind_of}
 use Rattle.sheet.specs.Calls.{with_row, degrees_of, reaches, first_of, second_of, written}
 use Rattle.sheet.specs.States.{seen}
 use Rattle.sheet.proofs.Exits.{goes, accepted, ok_same}
+use Rattle.sheet.proofs.Over.{moved}
 use Rattle.sheet.proofs.Writes.{same-written, read_back}
 use Rattle.sheet.proofs.sheet.Sheet.enter.Goals as goal
 
@@ -15,9 +16,10 @@ returns g c =
     let x = c.args.self.now in
     let s = seen x c.args.rows.now c.args.bytes.now in
     let ok = c.in_ok-check.ensures.exact in
+    let ready = c.in_ok-check.ensures.known.0 in
+    let worked = moved (λ t r. (k : ℕ) → k < t.states → get_or c.work_out-degrees.result.at k 0 ≡ degrees_of m d t r k) _ _ _ _ c.args.rows.now c.in_ok-check.ensures.known.1 (c.work_out-degrees.ensures c.args.rows.now) in
     let bytes : c.write.new.bytes ≡ written c.args.bytes.now (x.rows * x.states) x.states (degrees_of m d s c.args.row) =
-    c.write.ensures ∙ same-written _ _ x.states _ _ (λ k h. c.work_out-degrees.ensures c.args.rows.now k h) in
-    let ready = c.in_ok-check.ensures.known refl in
+    c.write.ensures ∙ same-written _ _ x.states _ _ worked in
     let row = c.args.row in
     let place : x.rows * x.states + x.states ≤ length c.args.bytes.now = omega (arith, ready.room.bytes, suc-mul x.rows x.states) in
     let reads : (k : ℕ) → k < x.states → get_or c.write.new.bytes (x.rows * x.states + k) 0 ≡ degrees_of m d s row k =

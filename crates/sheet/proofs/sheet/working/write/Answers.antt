@@ -1,6 +1,10 @@
-use Rattle.std.proofs.Common.{get_or}
-use Rattle.sheet.proofs.Writes.{one_written}
+use Rattle.std.proofs.Common.{◌≤◌, length, get_or, arith}
+use Rattle.sheet.proofs.Writes.{copied, front}
 use Rattle.sheet.proofs.sheet.working.write.Goals as goal
 
-pub loop-s-preserved : goal.loop-s-preserved
-loop-s-preserved c = one_written c.loop-s.bytes c.args.bytes.now c.args.start c.loop-s.s (λ k. get_or c.args.degrees.now.of k 0) c.loop-s.invariant
+pub returns : goal.returns
+returns c =
+    let of = c.args.degrees.now.at in
+    let whole : c.args.n ≤ length of = omega arith in
+    let part = front of c.copy_from_slice.new.self c.args.n c.copy_from_slice.ensures.after whole in
+    copied c.args.bytes.now c.copy_from_slice.new.self c.args.start c.args.n _ (λ s. get_or of s 0) (omega arith) (omega arith) part.0 part.1

@@ -1,0 +1,5 @@
+use Rattle.std.proofs.Common.{rules}
+use Rattle.engine.proofs.operands.Operands.either.Goals as goal
+
+pub returns : goal.returns
+returns g c = λ s q. let h = c.such_that.ensures s q in search rules

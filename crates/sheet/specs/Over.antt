@@ -1,0 +1,38 @@
+-- A sheet with its degree bytes, and a row over them, as the code holds them.
+use Rattle.std.specs.Prelude.{◌≡◌, ℕ, Bool, cond, not, ◌&&◌, ◌||◌, List, Ok, Err, Result, ◌==◌, nat_le}
+use Rattle.model.specs.Faults.{Refusal}
+use Rattle.sheet.specs.Faults.{told}
+use Rattle.sheet.specs.Kinds.{operands_of, number_of}
+use Rattle.sheet.specs.States.{State, seen}
+use Rattle.sheet.specs.declared.fault.SheetFault.{SheetFault}
+use Rattle.sheet.specs.declared.row.Row.{Row}
+use Rattle.sheet.specs.declared.sheet.Sheet.{Sheet}
+use Rattle.sheet.specs.declared.sheet.lent.Lent.{Lent}
+use Rattle.sheet.specs.declared.sheet.lent.Known.{Known}
+
+-- the sheet with its buffers, whatever the one of records holds
+abbrev pub state_of : Lent → List Row → State
+state_of x rs = seen x.sheet.now rs x.bytes.now
+
+-- the row as its buffer holds it
+abbrev pub row_of : Known → Row
+row_of x = record { kind = number_of x.kind; a = x.a; b = x.b }
+
+-- x is the sheet s with the bytes bs
+pub record Lends (x : Lent) (s : Sheet) (bs : List ℕ) : Type 0 where
+  pub sheet : x.sheet.now ≡ s
+  pub bytes : x.bytes.now ≡ bs
+
+-- x is the row r over them
+pub record Stands (x : Known) (s : Sheet) (bs : List ℕ) (r : Row) : Type 0 where
+  pub lends : Lends x.lent s bs
+  pub row : row_of x ≡ r
+
+-- an operand is no row below n, or an unused one is not 0
+abbrev pub misplaced : ℕ → Row → Bool
+misplaced n x = not (x.kind == 1) && nat_le n x.a || cond (operands_of x.kind == 2) (nat_le n x.b) (not (x.b == 0))
+
+-- how a check ends, whatever it hands on
+abbrev pub outcome : {X : Type 0} → Result X SheetFault → Result Unit Refusal
+outcome (Ok x) = Ok tt
+outcome (Err e) = Err (told e)

@@ -1,7 +1,7 @@
 //! A client of the sheet: its promise is proved from the laws of the sheet's calls alone.
 #![tactic(auto)]
 
-ghost use Rattle.std.specs.Prelude.{ℕ, IfOk};
+ghost use Rattle.std.specs.Prelude.{IfOk};
 ghost use Rattle.client.specs.Promise.{Judged};
 
 use engine::operator::Operator;
@@ -13,12 +13,13 @@ use sheet::row::Row;
 use sheet::sheet::Sheet;
 
 /// How far a proposition never holds, and a run on which it does.
-#[derive(Clone, Copy)]
+#[derive(Clone, Copy, PartialEq, Eq, Debug)]
 pub struct Verdict {
     pub degree: u8,
     pub run: Option<(u16, u16)>,
 }
 
+// Model, scale, rows and bytes one by one, as each call of the sheet takes them: the user's form.
 /// How far does proposition `p` never hold on the walks from a state, and which run breaks a level?
 pub fn never_holds<M: Model, S: Scale>(
     model: &M,

@@ -1,5 +1,6 @@
 -- Rounds of joining, recorded state by state.
 use Rattle.std.proofs.Common.{◌≡◌, ℕ, suc, ◌<◌, ◌≤◌, Bool, true, false, cond, ◌&&◌, eqb, ltb, ◌⊎◌, List, get_or, replicate, sym, refl, ap, ◌∙◌, inl, inr, ⊎_elim, arith}
+use mathlib.Core.Path.{fun_ext}
 use native.Mathlib.Decide.{le_ind}
 use lib.ListN.{get_or-replicate}
 use Rattle.std.proofs.lemmas.Bool.{cases_Bool, cases_lt, both_ways, lt-ltb, le-ltb, eq-eqb, eqb-true}
@@ -36,9 +37,14 @@ joined_cases true k r =
 joined_cases false k r = inr (λ e. refl, elim (eqb r never) as (λ v. cond (v && false) k r ≡ r) [ true ↦ refl | false ↦ refl ])
 
 -- what joins in round k had not joined before
-joined-before : (b : Bool) (k r j : ℕ) → j ≤ k → k < never → ltb (joined b k r) j ≡ ltb r j
+joined-before : (b : Bool) (k r j : ℕ) → j ≤ k → k ≤ never → ltb (joined b k r) j ≡ ltb r j
 joined-before b k r j h l =
     ⊎_elim (λ (a, _, e). rw e (le-ltb k j h ∙ sym (le-ltb r j (omega arith)))) (λ (_, e). ap (λ x. ltb x j) e) (joined_cases b k r)
+
+-- while round k is done below s, and not begun from there on, the states that joined before it stay the same
+pub before_kept : (f : Set → Set) (s k : ℕ) (x y : Rounds) (grew : Bool) → Round s f k x y grew → ((t : ℕ) → s ≤ t → round_of y t ≡ round_of x t) → k ≤ never → before y k ≡ before x k
+before_kept f s k x y grew r h le =
+    fun_ext (λ t. ⊎_elim (λ l. ap (λ v. ltb v k) (r.each t l) ∙ joined-before (f (before x k) t) k (round_of x t) k (omega arith) le) (λ l. ap (λ v. ltb v k) (h t l)) (cases_lt t s))
 
 module _ (n : ℕ) (f : Set → Set) (mono : Monotone n f) (few : n ≤ 4096) (x y : Rounds) (k : ℕ) (le : k ≤ n) (past : Past n x k) (js : Joins n f x k) where
   now_f : (s : ℕ) → s < n → f (before x k) s ≡ rounds f (suc k) empty s

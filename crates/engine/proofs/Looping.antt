@@ -70,12 +70,14 @@ module _ (m : Meaning) (ρ : ℕ → ℕ) (s : ℕ) (ys xs : List ℕ) (p d t : 
   }
 
 -- the same, by the length of the trail
-module _ (m : Meaning) (ρ : ℕ → ℕ) (s : ℕ) (ys xs : List ℕ) (i t p : ℕ) (trail : Trail m ρ s ys xs i t) (few : i ≤ m.states) (here : (p < i) × (get_or xs p 0 ≡ t)) where
-  parted : Trail m ρ s ys xs (p + (i - p)) t
-  parted = let e : i ≡ p + (i - p) = omega arith in subst (λ k. Trail m ρ s ys xs k t) e trail
-
-  pub loop_written : Written m.states ys xs p (i - p)
-  loop_written = in_writing m ρ s ys xs p (i - p) t (omega arith) (omega arith) parted here.1
-
-  pub loop_followed : Followed m ρ s (endless xs p (i - p))
-  loop_followed = follows m ρ s ys xs p (i - p) t (omega arith) (omega arith) parted here.1
+pub closed : (m : Meaning) (ρ : ℕ → ℕ) (s : ℕ) (ys xs : List ℕ) (i t p : ℕ) → Trail m ρ s ys xs i t → i ≤ m.states → (p < i) × (get_or xs p 0 ≡ t) → record {
+  written : Written m.states ys xs p (i - p);
+  followed : Followed m ρ s (endless xs p (i - p));
+}
+closed m ρ s ys xs i t p trail few here =
+    let e : i ≡ p + (i - p) = omega arith in
+    let parted = subst (λ k. Trail m ρ s ys xs k t) e trail in
+    record {
+      written = in_writing m ρ s ys xs p (i - p) t (omega arith) (omega arith) parted here.1;
+      followed = follows m ρ s ys xs p (i - p) t (omega arith) (omega arith) parted here.1;
+    }

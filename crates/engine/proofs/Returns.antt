@@ -1,15 +1,15 @@
 -- Nested fixed points of H by F alone.
-use Rattle.std.proofs.Common.{◌≡◌, ℕ, zero, suc, ◌+◌, ◌<◌, ◌≤◌, Bool, true, false, not, ◌&&◌, ◌||◌, ltb, sym, refl, ap, ◌∙◌, subst, ⊎_elim, add-one, arith}
+use Rattle.std.proofs.Common.{◌≡◌, ℕ, zero, suc, ◌<◌, ◌≤◌, Bool, true, false, not, ◌&&◌, ◌||◌, ltb, sym, refl, ap, ◌∙◌, subst, arith}
 use native.Mathlib.Decide.{le_ind}
-use Rattle.std.proofs.lemmas.Bool.{lt-ltb, and_from, and_parts, or_cases, or_left, or_right}
+use Rattle.std.proofs.lemmas.Bool.{lt-ltb, or_left}
 use Rattle.model.specs.Meaning.{Meaning}
 use Rattle.logic.proofs.Rounds.{rounds-within, gfp_open, gfp_shut}
 use Rattle.logic.proofs.Rules.{F_monotone}
 use Rattle.logic.proofs.Sets.{Monotone, same_test, within_itself}
-use Rattle.logic.proofs.Steps.{pre-within}
+use Rattle.logic.proofs.Tasks.{H_rule}
 use Rattle.logic.specs.FixedPoints.{pre, F, rounds, gfp}
 use Rattle.logic.specs.Searches.{H}
-use Rattle.logic.specs.Sets.{Set, empty, full, Within}
+use Rattle.logic.specs.Sets.{Set, empty, full}
 use Rattle.engine.specs.Marks.{members, round_of, before, ours, Rounds, StateSet}
 use Rattle.engine.specs.Passing.{step_h, returned, Returning, remained}
 use Rattle.engine.specs.Rounded.{Joins, Leaves, joined, Round, step_f, Holds, Applied}
@@ -34,15 +34,6 @@ swap false true false false v = refl
 swap false false u true true = refl
 swap false false u true false = refl
 swap false false u false v = refl
-
-h_monotone : (m : Meaning) (own A B C T U V W : Set) → Within m.states T U → Within m.states V W → Within m.states (H m own A B C T V) (H m own A B C U W)
-unfolding F H
-h_monotone m own A B C T U V W h k s l e =
-    ⊎_elim (λ a. or_left (A s || B s && pre m own U s) _ (F_monotone m own A B T U h s l a))
-    (λ a.
-    let r = and_parts (C s) (pre m own V s) a in
-    or_right (A s || B s && pre m own U s) _ (and_from (C s) _ r.0 (pre-within m own V W k s r.1)))
-    (or_cases (A s || B s && pre m own T s) (C s && pre m own V s) e)
 
 -- after j outer rounds of a greatest fixed point of least ones: x has the returned rounds from base, which is F of the set of the round before
 pub record Outer (m : Meaning) (some : Bool) (right pass left base : StateSet) (x : Rounds) (j : ℕ) : Type 0 where
@@ -80,7 +71,7 @@ module _ (m : Meaning) (some : Bool) (right pass left : StateSet) where
   returned_monotone : Monotone n (returned m some right pass left)
   returned_monotone T U h =
       rounds-within n (λ T1. step_h m some right pass left T1 T) (λ T1. step_h m some right pass left T1 U)
-      (λ V W e. h_monotone m own (members right) (members pass) (members left) V W T U e h) empty empty (within_itself n empty) (suc n)
+      (λ V W e. (H_rule m own (members right) (members pass) (members left)).monotone V W T U e h) empty empty (within_itself n empty) (suc n)
 
   pub outer_none : (base : StateSet) (x : Rounds) → Holds n full base → ((s : ℕ) → s < n → round_of x s ≡ 0) → Outer m some right pass left base x 0
   unfolding F
@@ -97,22 +88,22 @@ module _ (m : Meaning) (some : Bool) (right pass left : StateSet) where
           ∙ sym (or_left (members base s) (members pass s && pre m own (rounds (step_f m some base pass) j empty) s) (h s q))
 
   module _ (base base' : StateSet) (x : Rounds) (j : ℕ) (o : Outer m some right pass left base x j) where
-    pub outer_more : (changed : Bool) → Applied n (step_f m some right left (before x (n + 1))) base base' changed → (y : Rounds) → Joins n (step_f m some base' pass) y (suc n) → Outer m some right pass left base' y (suc j)
+    pub outer_more : (changed : Bool) → Applied n (step_f m some right left (before x (suc n))) base base' changed → (y : Rounds) → Joins n (step_f m some base' pass) y (suc n) → Outer m some right pass left base' y (suc j)
     outer_more changed a y js = record {
       fixed = js;
       after = λ s q.
           js s q (suc n) (omega arith)
-          ∙ base_rounds base' (before x (suc n)) (rounds (returned m some right pass left) j full) ((λ s q. rw add-one at (a.each s q)), o.after) (suc n) s q;
+          ∙ base_rounds base' (before x (suc n)) (rounds (returned m some right pass left) j full) (a.each, o.after) (suc n) s q;
       from_last = λ i e.
           let same-j : j ≡ i = omega arith in
           subst (λ k. Holds n (step_f m some right left (rounds (returned m some right pass left) k full)) base') same-j
-          (made base' (before x (suc n)) (rounds (returned m some right pass left) j full) ((λ s q. rw add-one at (a.each s q)), o.after));
+          (made base' (before x (suc n)) (rounds (returned m some right pass left) j full) (a.each, o.after));
     }
 
     -- nothing changed: base is F of the set found
-    module _ (a : Applied n (step_f m some right left (before x (n + 1))) base base' false) where
+    module _ (a : Applied n (step_f m some right left (before x (suc n))) base base' false) where
       found : Made base (before x (suc n)) (rounds (returned m some right pass left) j full)
-      found = ((λ s q. sym (a.still refl s q) ∙ (rw add-one at (a.each s q))), o.after)
+      found = (λ s q. sym (a.still refl s q) ∙ a.each s q, o.after)
 
       still_once : Same n (rounds (returned m some right pass left) (suc j) full) (rounds (returned m some right pass left) j full)
       still_once s q =
@@ -147,7 +138,7 @@ module _ (m : Meaning) (some : Bool) (right pass left : StateSet) where
   pub remained_monotone : Monotone m.states (remained m some right pass left)
   remained_monotone T U h =
       rounds-within m.states (λ T2. step_h m some right pass left T T2) (λ T2. step_h m some right pass left U T2)
-      (λ V W e. h_monotone m (ours some) (members right) (members pass) (members left) T U V W h e) full full (within_itself m.states full) (suc m.states)
+      (λ V W e. (H_rule m (ours some) (members right) (members pass) (members left)).monotone T U V W h e) full full (within_itself m.states full) (suc m.states)
 
   module _ (base : StateSet) (T1 : Set) (made : Holds m.states (step_f m some right pass T1) base) where
     settle_step : (T U : Set) → Same m.states T U → Same m.states (step_f m some base left T) (step_h m some right pass left T1 U)
@@ -156,11 +147,14 @@ module _ (m : Meaning) (some : Bool) (right pass left : StateSet) where
         alike m.states (step_f m some base left) (F_monotone m (ours some) (members base) (members left)) T U e s q
         ∙ rw (made s q) refl
 
-    pub stayed : (x : Rounds) → Leaves m.states (step_f m some base left) x (suc m.states) → Same m.states (λ s. not (before x (suc m.states) s)) (remained m some right pass left T1)
+    stayed : (x : Rounds) → Leaves m.states (step_f m some base left) x (suc m.states) → Same m.states (λ s. not (before x (suc m.states) s)) (remained m some right pass left T1)
     stayed x ls s q =
         ls s q (suc m.states) (omega arith)
         ∙ rounds_alike m.states (step_f m some base left) (λ T2. step_h m some right pass left T1 T2) settle_step full (suc m.states) s q
 
--- the states of T join in round k
-pub round_of_lem : (n : ℕ) (f : Set → Set) (T : Set) (k : ℕ) (x y : Rounds) (grew : Bool) → Same n T (f (before x k)) → Round n (λ U. T) k x y grew → Round n f k x y grew
-round_of_lem n f T k x y grew e r = record { each = λ s q. r.each s q ∙ ap (λ b. joined b k (round_of x s)) (e s q); still = r.still }
+  -- a round of it: those join that have not left the greatest F of base and left, where base is F of those that joined before
+  pub settled_round : (k : ℕ) (x y gone : Rounds) (base : StateSet) (grew : Bool) → Holds m.states (step_f m some right pass (before x k)) base → Leaves m.states (step_f m some base left) gone (suc m.states) → Round m.states (λ _ s. not (before gone (suc m.states) s)) k x y grew → Round m.states (remained m some right pass left) k x y grew
+  settled_round k x y gone base grew made ls r = record {
+    each = λ s q. r.each s q ∙ ap (λ b. joined b k (round_of x s)) (stayed base (before x k) made gone ls s q);
+    still = r.still;
+  }

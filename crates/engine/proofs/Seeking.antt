@@ -1,7 +1,7 @@
 -- Rounds of nested fixed points guide the search of every operator but X.
 use Rattle.std.proofs.Common.{◌≡◌, suc, true, false, refl, arith}
 use Rattle.model.specs.Meaning.{Meaning}
-use Rattle.logic.specs.Searches.{Task as Asked, found, guide_of, Joined, sought, Guides}
+use Rattle.logic.specs.Searches.{found, guide_of, Joined, sought, Guides}
 use Rattle.engine.specs.Marks.{round_of, before, Rounds}
 use Rattle.engine.specs.Passing.{Returning, remained}
 use Rattle.engine.specs.Rounded.{Joins}
@@ -13,29 +13,24 @@ use Rattle.engine.specs.declared.operator.Operator.TheVariants.{Next, Finally, G
 use Rattle.engine.specs.declared.tasks.Task.{Task}
 use Rattle.engine.proofs.Nesting.{Same}
 
--- the rounds guide the search, and find the states that it is to find
-pub record Guiding (m : Meaning) (t : Asked) (x : Rounds) : Type 0 where
-  pub guides : Joined m.states (guide_of m t) (round_of x)
-  pub finds : Same m.states (before x (suc m.states)) (found m t)
-
 module _ (m : Meaning) (t : Task) (x : Rounds) where
-  pub by_remaining : t.settles ≡ true → Joins m.states (remained m true t.a t.b t.c) x (suc m.states) → Guiding m (carried t) x
-  by_remaining e js = rw e (record { guides = js; finds = λ s q. js s q (suc m.states) (omega arith) })
+  -- the rounds guide the search, and find the states that it is to find
+  abbrev Sought : Operator → Type 0
+  Sought o = record {
+    guides : Guides m (asked o) (carried t) (round_of x);
+    find : Same m.states (found_by m (asked o) x) (sought m (asked o) (carried t));
+  }
 
-  pub by_returning : t.settles ≡ false → Returning m true t.a t.b t.c x → Guiding m (carried t) x
-  by_returning e r = rw e (record { guides = r.rounds_of; finds = r.set })
+  by_operator : (o : Operator) → (o ≡ Next → ⊥) → Joined m.states (guide_of m (carried t)) (round_of x) → Same m.states (before x (suc m.states)) (found m (carried t)) → Sought o
+  by_operator Next ne g f = absurd (ne refl)
+  by_operator Finally ne g f = record { guides = g; find = f }
+  by_operator Globally ne g f = record { guides = g; find = f }
+  by_operator Until ne g f = record { guides = g; find = f }
+  by_operator Weak ne g f = record { guides = g; find = f }
 
-module _ (m : Meaning) (t : Asked) (x : Rounds) (f : Guiding m t x) where
-  pub guided : (o : Operator) → (o ≡ Next → ⊥) → Guides m (asked o) t (round_of x)
-  guided Next ne = absurd (ne refl)
-  guided Finally ne = f.guides
-  guided Globally ne = f.guides
-  guided Until ne = f.guides
-  guided Weak ne = f.guides
+  module _ (o : Operator) (ne : o ≡ Next → ⊥) where
+    pub by_remaining : t.settles ≡ true → Joins m.states (remained m true t.a t.b t.c) x (suc m.states) → Sought o
+    by_remaining e js = by_operator o ne (rw e js) (rw e (λ s q. js s q (suc m.states) (omega arith)))
 
-  pub finding : (o : Operator) → (o ≡ Next → ⊥) → Same m.states (found_by m (asked o) x) (sought m (asked o) t)
-  finding Next ne = absurd (ne refl)
-  finding Finally ne = f.finds
-  finding Globally ne = f.finds
-  finding Until ne = f.finds
-  finding Weak ne = f.finds
+    pub by_returning : t.settles ≡ false → Returning m true t.a t.b t.c x → Sought o
+    by_returning e r = by_operator o ne (rw e r.rounds_of) (rw e r.set)

@@ -2,13 +2,18 @@
 use Rattle.std.proofs.Common.{◌≡◌, ℕ, zero, suc, ◌+◌, ◌-◌, ◌<◌, ◌≤◌, Bool, true, false, not, length, get_or, List, [], ◌∷◌, filter, Some, None, sym, ap, refl, ◌∙◌, subst, ⊎_elim, arith}
 use mathlib.Core.Bool.{beq}
 use Rattle.std.specs.Bool.{MatchBool}
+use Rattle.std.specs.Iterator.{YieldsFirst}
+use Rattle.std.specs.Iterator.Runs.{Run, AllItems, AnyItem}
+use Rattle.std.specs.Option.{IfSome, IsSomeAnd}
+use Rattle.std.proofs.iter.Rest.{run_of_first}
+use Rattle.std.proofs.lemmas.Iterator.Adapters.{option_map_id}
 use Rattle.std.specs.List.{range_with_len, HoldsAt, AllWithin}
 use Rattle.std.proofs.lemmas.Bool.{cases_Bool, cases_lt, both_ways}
-use Rattle.std.proofs.lemmas.Grind.{get_or_default_zero}
 use Rattle.model.specs.Meaning.{Meaning, Lawful, Least}
 use Rattle.logic.specs.FixedPoints.{pre}
 use Rattle.logic.specs.Sets.{Set}
 use Rattle.engine.specs.Marks.{ours}
+use Rattle.engine.specs.Seeking.{Goes}
 use Rattle.engine.specs.Targets.{targets}
 use Rattle.engine.proofs.Hits.{hit, miss}
 
@@ -94,11 +99,18 @@ kept p (suc n) t u e l h =
 pub among : (m : Meaning) (s u : ℕ) → Lawful m → m.step s u ≡ true → Among u (targets m s 0)
 among m s u law e = let l = law.steps_to s u e in kept (m.step s) (m.states - 0) 0 u e (omega arith) (omega arith)
 
--- what comes at a place is a step, and is read by any default
-pub comes : (m : Meaning) (s k u : ℕ) → (k < length (targets m s 0)) × (u ≡ get_or (targets m s 0) k u) → (m.step s u ≡ true) × (u ≡ get_or (targets m s 0) k 0)
-comes m s k u (l, e) =
-    let i : u ≡ get_or (targets m s 0) k 0 = e ∙ get_or_default_zero (targets m s 0) k u l in
-    (subst (λ v. m.step s v ≡ true) (sym i) (passes (m.step s) (range_with_len 0 (m.states - 0)) k l), i)
+-- an item of a run over the steps of s, with none of a lower ρ
+module _ {S : Type 0} (rest : S → List ℕ) (p : Run (YieldsFirst rest)) (m : Meaning) (law : Lawful m) (s : ℕ) (from : rest p.from ≡ targets m s 0) (w : p.whole ≡ true) where
+  at : (k : ℕ) → k < p.len → p.at k ≡ Some (get_or (targets m s 0) k 0)
+  at k l = sym (option_map_id (p.at k)) ∙ (rw from at ((run_of_first rest p).1.2 k 0 l))
+
+  pub chosen : (ρ : ℕ → ℕ) (u : ℕ) → AnyItem p (λ x. x ≡ u) → AllItems p (λ x. ρ u ≤ ρ x) → Goes m ρ s u
+  chosen ρ u (k, l, e) best =
+      let all : p.len ≡ length (targets m s 0) = rw from at ((run_of_first rest p).1.1 w) in
+      record {
+        step = subst (λ v. m.step s v ≡ true) (subst (λ o. IsSomeAnd o (λ x. x ≡ u)) (at k l) e) (passes (m.step s) (range_with_len 0 (m.states - 0)) k (omega arith));
+        least = λ v step. let a = among m s v law step in subst (λ x. ρ u ≤ ρ x) a.2 (subst (λ o. IfSome o (λ x. ρ u ≤ ρ x)) (at a.0 (omega (arith, a.1))) (best a.0));
+      }
 
 -- whether any step leads into T tells whether some do, or all, by which is asked
 module _ (m : Meaning) (law : Lawful m) (T : Set) (s : ℕ) where

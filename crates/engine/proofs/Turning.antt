@@ -1,6 +1,6 @@
 -- A greatest F is a least F of the other side.
 use Rattle.std.proofs.Common.{◌≡◌, ℕ, zero, suc, ◌<◌, Bool, true, false, not, ◌&&◌, ◌||◌, sym, refl, ap, ◌∙◌, ⊎_elim}
-use Rattle.std.proofs.lemmas.Bool.{cases_Bool, both_ways, not-true, not-false, not_from_true, not_from_false}
+use Rattle.std.proofs.lemmas.Bool.{cases_Bool, both_ways, false_from_ne_true, not-true, not-false, not_from_true, not_from_false}
 use Rattle.model.specs.Meaning.{Meaning}
 use Rattle.logic.proofs.Rounds.{rounds_turned, turned}
 use Rattle.logic.proofs.Rules.{F_monotone}
@@ -23,12 +23,9 @@ clash m some U s a b =
 
 turn_pre : (m : Meaning) (some : Bool) (U : Set) (s : ℕ) → pre m (ours (not some)) U s ≡ not (pre m (ours some) (complement U) s)
 turn_pre m some U s =
-    ⊎_elim (λ e. not_so (λ a. clash m some U s a e) ∙ sym (not_from_true (pre m (ours some) (complement U) s) e))
+    ⊎_elim (λ e. false_from_ne_true _ (λ a. clash m some U s a e) ∙ sym (not_from_true (pre m (ours some) (complement U) s) e))
     (λ e. pre_dual m (ours some) U s e ∙ sym (not_from_false (pre m (ours some) (complement U) s) e))
     (cases_Bool (pre m (ours some) (complement U) s))
-  where
-    not_so : (pre m (ours (not some)) U s ≡ true → ⊥) → pre m (ours (not some)) U s ≡ false
-    not_so f = ⊎_elim (λ e. absurd (f e)) (λ e. e) (cases_Bool (pre m (ours (not some)) U s))
 
 turn_bool : (a b p : Bool) → ((not a && not b) || not a && not p) ≡ not (a || b && p)
 turn_bool true b p = refl

@@ -1,6 +1,6 @@
 -- What the engine's loops leave.
 use Rattle.std.specs.Prelude.{◌≡◌, ℕ, suc, ◌<◌, ◌≤◌, Bool, false, cond, not, ◌&&◌, ◌==◌}
-use Rattle.std.specs.Borrow.{MutBor}
+use Rattle.std.specs.Borrow.{Bor, MutBor}
 use Rattle.model.specs.Meaning.{Meaning}
 use Rattle.logic.specs.FixedPoints.{F, G, rounds, lfp, gfp}
 use Rattle.logic.specs.Sets.{Set, empty, full, Within}
@@ -25,7 +25,11 @@ pub record Round (n : ℕ) (f : Set → Set) (k : ℕ) (x y : Rounds) (grew : Bo
 
 -- whatever a call with k, as post tells of it, leaves is round k of f
 abbrev pub EachRound : ℕ → (Set → Set) → (ℕ → MutBor Rounds → Bool → MutBor Rounds → Type 0) → Type 0
-EachRound n f post = (k : ℕ) (x y : MutBor Rounds) (b : Bool) → k < never → post k x b y → Round n f k x.now y.now b
+EachRound n f post = (k : ℕ) (x y : MutBor Rounds) (b : Bool) → post k x b y → Round n f k x.now y.now b
+
+-- whatever a call at a state answers, as post tells of it, is f of the states that joined before round k
+abbrev pub Ruled : (Set → Set) → ℕ → (ℕ → Bor Rounds → Bool → Type 0) → Type 0
+Ruled f k post = (s : ℕ) (x : Bor Rounds) (b : Bool) → post s x b → b ≡ f (before x.now k) s
 
 -- f of more states has more states
 abbrev pub Grows : ℕ → (Set → Set) → Type 0

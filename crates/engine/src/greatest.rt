@@ -3,6 +3,7 @@ ghost use Rattle.std.specs.Prelude.{suc};
 ghost use Rattle.engine.specs.Rounded.{Leaves, step_f};
 
 use crate::least::least;
+use crate::operands::Operands;
 use crate::rounds::Rounds;
 use crate::sets::StateSet;
 use model::interface::Model;
@@ -11,7 +12,11 @@ use model::interface::Model;
 pub fn greatest<M: Model>(model: &M, some: bool, s1: &StateSet, s2: &StateSet) -> Rounds
     ensures { Leaves (M.meaning model.now).states (step_f (M.meaning model.now) some s1.now s2.now) result (suc (M.meaning model.now).states) }
 {
-    let a = StateSet::such_that(model, |s| !s1.has(s) && !s2.has(s));
-    let b = StateSet::such_that(model, |s| !s1.has(s));
+    let a = Operands {
+        left: s2,
+        right: s1,
+    }
+    .neither(model);
+    let b = s1.outside(model);
     least(model, !some, &a, &b)
 }

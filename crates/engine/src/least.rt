@@ -1,30 +1,29 @@
 //! Least fixed points of F.
-ghost use Rattle.std.specs.Prelude.{◌≡◌, ℕ, suc, ◌<◌, replicate};
+ghost use Rattle.std.specs.Prelude.{◌≡◌, suc, replicate};
 ghost use Rattle.logic.specs.Sets.{Set};
-ghost use Rattle.engine.specs.Rounded.{EachRound, Grows, Joins, Round, step_f};
+ghost use Rattle.engine.specs.Rounded.{EachRound, Grows, Joins, Round, Ruled, step_f};
 
 use crate::rounds::{NEVER, Rounds};
 use crate::sets::StateSet;
 use crate::steps::in_f;
 use model::interface::Model;
 
-/// Round `k`: each state of F of the states that joined before joins. Did any?
-fn grow<M: Model>(
+// No struct of `k` and `joined`: the same rounds go through every `k`, so it would be made anew for each.
+/// Round `k`: each state that has not joined and that the rule lets in joins. Did any?
+pub(crate) fn join<M: Model, F: Fn(u16, &Rounds) -> bool>(
     model: &M,
-    some: bool,
-    s1: &StateSet,
-    s2: &StateSet,
     k: u16,
     joined: &mut Rounds,
+    rule: F,
 ) -> bool
-    requires { k < 65535 }
-    ensures { Round (M.meaning model.now).states (step_f (M.meaning model.now) some s1.now s2.now) k joined.old joined.new result }
+    requires { F.IsAlwaysCallable rule }
+    ensures { (f : Set → Set) → Ruled f k (F.post rule) → Round (M.meaning model.now).states f k joined.old joined.new result }
 {
     let mut grew = false;
-    // By index, since `in_f` reads all the rounds while one of them is written.
+    // By index, since the rule reads all the rounds while one of them is written.
     for s in 0..model.states() {
-        if joined.at[s as usize] == NEVER && in_f(model, some, s, s1, s2, joined, k) {
-            joined.at[s as usize] = k;
+        if joined.at[usize::from(s)] == NEVER && rule(s, joined) {
+            joined.at[usize::from(s)] = k;
             grew = true;
         }
     }
@@ -38,9 +37,10 @@ pub(crate) fn fill<M: Model, F: Fn(u16, &mut Rounds) -> bool>(
     round: F,
 )
     requires joined { joined.old.at ≡ replicate 4096 65535 }
-    requires takes { (k : ℕ) (x : _) → k < 65535 → F.pre round k x }
+    requires takes { F.IsAlwaysCallable round }
     ensures { (f : Set → Set) → Grows (M.meaning model.now).states f → EachRound (M.meaning model.now).states f (F.post round) → Joins (M.meaning model.now).states f joined.new (suc (M.meaning model.now).states) }
 {
+    // Not by `all` on the range: tried, the proof did not close where its closure hands `joined` on to `round`.
     for k in 0..model.states() + 1 {
         if !round(k, joined) {
             return;
@@ -48,15 +48,17 @@ pub(crate) fn fill<M: Model, F: Fn(u16, &mut Rounds) -> bool>(
     }
 }
 
+// No struct of `s1` and `s2`: F is taken at other sets in each call, so it would be made and taken apart for each.
 /// The least fixed point of F of S1 and S2, by the round in which each state joins it.
 pub fn least<M: Model>(model: &M, some: bool, s1: &StateSet, s2: &StateSet) -> Rounds
     ensures { Joins (M.meaning model.now).states (step_f (M.meaning model.now) some s1.now s2.now) result (suc (M.meaning model.now).states) }
 {
+    // As `remaining`: what the two share is `fill`, and each gives it a round of its own.
     let mut joined = Rounds::of(NEVER);
-    fill(
-        model,
-        &mut joined,
-        |k, joined| grow(model, some, s1, s2, k, joined),
-    );
+    fill(model, &mut joined, |k, joined| {
+        join(model, k, joined, |s, joined| {
+            in_f(model, some, s, s1, s2, joined, k)
+        })
+    });
     joined
 }

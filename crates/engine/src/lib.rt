@@ -1,8 +1,9 @@
 //! Fixed points over any model, on sets on the stack.
 #![tactic(auto)]
 
-// `model`, `some` and the sets of a fixed point go to each function one by one: `greatest` turns `some`, and F and H are taken
-// at sets and rounds that differ from call to call, so a value that held them would be made anew for each.
+// `model`, `some`, a round and the sets of a fixed point go to each function one by one: `greatest` turns `some`, and F
+// and H are taken at sets and rounds that differ from call to call, so a value that held them would be made anew for
+// each. So do operator, reading and operands: the operator is asked first, and what it leads to wants some of the others.
 
 pub mod greatest;
 pub mod least;

@@ -7,6 +7,7 @@ use crate::rounds::Rounds;
 use crate::sets::StateSet;
 use model::interface::Model;
 
+// Not one function with `settling`: each is one call, and the rounds that they answer do not mean the same.
 /// The states from which some walk, or every walk, is good infinitely often, by the last inner rounds.
 pub fn recurring<M: Model>(model: &M, some: bool, right: &StateSet, left: &StateSet) -> Rounds
     ensures { Recurring (M.meaning model.now) some right.now left.now result }
@@ -15,7 +16,8 @@ pub fn recurring<M: Model>(model: &M, some: bool, right: &StateSet, left: &State
     returning(model, some, right, &all, left)
 }
 
-/// The states from which some walk, or every walk, is good from some position on, by the outer round in which each joins.
+/// The states from which some walk, or every walk, is good from some position on, by the outer round in which each
+/// joins.
 pub fn settling<M: Model>(model: &M, some: bool, right: &StateSet, left: &StateSet) -> Rounds
     ensures { Joins (M.meaning model.now).states (settled (M.meaning model.now) some right.now left.now) result (suc (M.meaning model.now).states) }
 {

@@ -15,6 +15,7 @@ pub struct Operands<'a> {
 }
 
 impl Operands<'_> {
+    // Not one function with `neither`: one that took the rule would be `such_that` again.
     /// The states of either set.
     pub(crate) fn either<M: Model>(self, model: &M) -> StateSet
         ensures { Holds (M.meaning model.now).states (union (members self.entry.right.now) (members self.entry.left.now)) result }

@@ -4,6 +4,7 @@ ghost use Rattle.std.specs.Prelude.{◌≡◌, ℕ, ◌<◌, ◌≤◌, replicat
 /// A value for each state, of which a model has at most 4,096.
 #[derive(Clone, Copy)]
 pub struct PerState<T> {
+    // An array and no `Vec`: nothing is allocated.
     pub at: [T; 4096],
 }
 
@@ -19,7 +20,7 @@ impl<T: Copy> PerState<T> {
     pub(crate) fn at_or(&self, s: u16, rest: T) -> T
         ensures { result ≡ slice_index_or self.now.at s rest }
     {
-        self.at.get(s as usize).copied().unwrap_or(rest)
+        self.at.get(usize::from(s)).copied().unwrap_or(rest)
     }
 
     /// What the rule gives for each of the first `n` states, and `rest` for the others.
@@ -29,9 +30,10 @@ impl<T: Copy> PerState<T> {
         ensures others { (s : ℕ) → n ≤ s → slice_index_or result.at s rest ≡ rest }
     {
         let mut all = PerState::everywhere(rest);
-        // The first `n` places alone are visited, so that a small model does not pay for 4,096.
+        // Not by `array::from_fn`, which visits all 4,096 places: a small model must not pay for them. By index, since
+        // `enumerate` counts in `usize` and `s` would be narrowed.
         for s in 0..n.min(4096) {
-            all.at[s as usize] = rule(s);
+            all.at[usize::from(s)] = rule(s);
         }
         all
     }

@@ -24,7 +24,7 @@ fn joined<M: Model>(model: &M, rounds: &Rounds) -> StateSet
     ensures { Holds (M.meaning model.now).states (before rounds.now (suc (M.meaning model.now).states)) result }
 {
     let n = model.states();
-    StateSet::such_that(model, |s| rounds.at[s as usize] <= n)
+    StateSet::such_that(model, |s| rounds.joined(s, n))
 }
 
 /// Round 0 for each state of the set, and never for the others.
@@ -65,7 +65,7 @@ fn always<M: Model>(model: &M, some: bool, operands: Operands) -> StateSet
 {
     let n = model.states();
     let gone = greatest(model, some, operands.right, operands.left);
-    StateSet::such_that(model, |s| gone.at[s as usize] > n)
+    StateSet::such_that(model, |s| !gone.joined(s, n))
 }
 
 /// W at a level that reads eventually always.
@@ -75,6 +75,7 @@ fn eventually<M: Model>(model: &M, some: bool, operands: Operands) -> StateSet
     joined(model, &settling(model, some, operands.right, operands.left))
 }
 
+// As `eventually`, with another fixed point: one that took it as a closure would be `joined` again.
 /// W at a level that reads infinitely often.
 fn infinitely<M: Model>(model: &M, some: bool, operands: Operands) -> StateSet
     ensures { Holds (M.meaning model.now).states (sat_weak (M.meaning model.now) (ours some) (Some InfinitelyOften) (members operands.entry.left.now) (members operands.entry.right.now)) result }
@@ -124,7 +125,8 @@ pub fn satisfy<M: Model>(
 ) -> StateSet
     ensures { Holds (M.meaning model.now).states (sat_path (M.meaning model.now) (ours some) (asked operator) (Some reading) (members operands.entry.left.now) (members operands.entry.right.now)) result }
 {
-    // No struct holds `some`, `operator` and `reading`: they come apart here and in `task_of`, and only `show` passes on all three.
+    // No struct holds `some`, `operator` and `reading`: they come apart here and in `task_of`, and only `show` passes
+    // on all three.
     match operator {
         Operator::Next => next(model, some, operands.left),
         Operator::Finally => sometime(model, some, operands.left),

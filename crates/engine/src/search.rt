@@ -22,26 +22,24 @@ fn least_step<M: Model>(model: &M, s: u16, rank: &Rounds) -> u16
     requires { HasStep (M.meaning model.now) s }
     ensures { Goes (M.meaning model.now) (round_of rank.now) s result }
 {
-    let Some(mut best) = model.least_step(s, 0) else {
-        unreachable()
-    };
-    for u in Successors::of(model, s) {
-        if rank.round(u) < rank.round(best) {
-            best = u;
-        }
-    }
-    best
+    Successors::of(model, s)
+        .min_by_key(|u| rank.round(*u))
+        .unwrap()
 }
 
-/// The place of `t` among the first `i`.
-fn place_of(out: &[u16], i: u16, t: u16) -> Option<u16>
-    requires { i ≤ length out.now }
-    ensures { MatchOption result ((k : ℕ) → k < i → slice_index out.now k ≢ t) (λ p. (p < i) × (slice_index out.now p ≡ t)) }
+/// The place of `t` in the slice.
+fn place_of(places: &[u16], t: u16) -> Option<u16>
+    requires { length places.now < 65536 }
+    ensures { MatchOption result ((k : ℕ) → k < length places.now → slice_index places.now k ≢ t) (λ p. (p < length places.now) × (slice_index places.now p ≡ t)) }
 {
-    let p = out[..i as usize].iter().position(|x| *x == t)?;
+    let p = places.iter().position(|x| *x == t)?;
+    // By `as`: the place fits, and `try_from` would have an error that cannot come.
     Some(p as u16)
 }
 
+// `inside`, `total` and `room` stand in three contracts: a struct with them would be made in `show` and taken apart in
+// `lasso`, which writes `out`.
+// The lengths are a pair: it is handed on as it is to `walk`, whose pair is the users' form.
 /// Writes the walk from `s` that always goes to a least round: the lengths of its stem and of its loop.
 fn lasso<M: Model>(model: &M, s: u16, rank: &Rounds, out: &mut [u16]) -> (u16, u16)
     requires inside { s < (M.meaning model.now).states }
@@ -54,16 +52,14 @@ fn lasso<M: Model>(model: &M, s: u16, rank: &Rounds, out: &mut [u16]) -> (u16, u
     let mut t = s;
     // By index: a place is written only once the walk has come there, and the places before it are read.
     for i in 0..n {
-        if let Some(p) = place_of(out, i, t) {
+        if let Some(p) = place_of(&out[..usize::from(i)], t) {
             return (p, i - p);
         }
-        out[i as usize] = t;
+        out[usize::from(i)] = t;
         t = least_step(model, t, rank);
     }
-    match place_of(out, n, t) {
-        Some(p) => (p, n - p),
-        None => unreachable(),
-    }
+    let p = place_of(&out[..usize::from(n)], t).unwrap();
+    (p, n - p)
 }
 
 /// The rounds that guide the walk to be found.
@@ -71,7 +67,8 @@ fn seek<M: Model>(model: &M, operator: Operator, task: &Task) -> Rounds
     ensures guides { Guides (M.meaning model.now) (asked operator) (carried task.now) (round_of result) }
     ensures find { (s : ℕ) → s < (M.meaning model.now).states → found_by (M.meaning model.now) (asked operator) result s ≡ sought (M.meaning model.now) (asked operator) (carried task.now) s }
 {
-    if let Operator::Next = operator {
+    // `settles` is asked here alone, between two calls: a closure or a `dyn` value would be no plainer.
+    if operator == Operator::Next {
         join_first(model, &task.a)
     } else if task.settles {
         remaining(model, true, &task.a, &task.b, &task.c)
@@ -80,20 +77,21 @@ fn seek<M: Model>(model: &M, operator: Operator, task: &Task) -> Rounds
     }
 }
 
+// X is asked here and in `seek`, and nowhere else: its rounds are counted otherwise. `operator` and `s` go on one by one,
+// since `seek` asks the first alone.
 /// Is `s` found by the rounds that guide the walk?
 fn finds<M: Model>(model: &M, operator: Operator, rounds: &Rounds, s: u16) -> bool
-    requires { s < (M.meaning model.now).states }
     ensures { result ≡ found_by (M.meaning model.now) (asked operator) rounds.now s }
 {
-    if let Operator::Next = operator {
+    if operator == Operator::Next {
         steps_into(model, true, s, rounds, 1)
     } else {
-        rounds.at[s as usize] <= model.states()
+        rounds.joined(s, model.states())
     }
 }
 
-/// A walk from `s` that does the task; for X, a walk whose next state is in the task's `a`. Writes its stem and its loop, and
-/// answers their lengths, where there is such a walk.
+/// A walk from `s` that does the task; for X, a walk whose next state is in the task's `a`. Writes its stem and its
+/// loop, and answers their lengths, where there is such a walk.
 pub fn search<M: Model>(
     model: &M,
     operator: Operator,
@@ -107,6 +105,7 @@ pub fn search<M: Model>(
     ensures { Searched (M.meaning model.now) (asked operator) (carried task.now) s out.old out.new result }
 {
     let rounds = seek(model, operator, task);
+    // Not `then`: its closure would take the caller's buffer along, and it reads no plainer.
     if finds(model, operator, &rounds, s) {
         Some(lasso(model, s, &rounds, out))
     } else {

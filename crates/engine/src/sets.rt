@@ -1,6 +1,8 @@
 //! Sets of states.
-ghost use Rattle.std.specs.Prelude.{◌≡◌, ℕ, ◌<◌, Bool, true, false, set, replicate, slice_set};
+ghost use Rattle.std.specs.Prelude.{◌≡◌, ℕ, ◌<◌, replicate, slice_set};
 ghost use Rattle.engine.specs.Marks.{members};
+ghost use Rattle.engine.specs.Rounded.{Holds};
+ghost use Rattle.logic.specs.Sets.{complement};
 
 use crate::per_state::PerState;
 use model::interface::Model;
@@ -32,14 +34,21 @@ impl StateSet {
         self.at_or(s, false)
     }
 
+    /// The states that the set has not.
+    pub(crate) fn outside<M: Model>(&self, model: &M) -> StateSet
+        ensures { Holds (M.meaning model.now).states (complement (members self.now)) result }
+    {
+        StateSet::such_that(model, |s| !self.has(s))
+    }
+
     /// Puts the state into the set, or takes it out. A number that no state can have changes nothing.
     pub fn put(&mut self, s: u16, member: bool)
         ensures { self.new.at ≡ slice_set self.old.at s member }
     {
-        let marks: &mut [bool] = &mut self.at;
-        let i = s as usize;
-        if i < marks.len() {
-            marks[i] = member;
+        let i = usize::from(s);
+        // By index: after a write through `get_mut`, a proof knows the array's length and not its elements.
+        if i < self.at.len() {
+            self.at[i] = member;
         }
     }
 }

@@ -12,11 +12,13 @@ use model::interface::Model;
 pub fn steps_into<M: Model>(model: &M, some: bool, s: u16, joined: &Rounds, k: u16) -> bool
     ensures { result ≡ pre (M.meaning model.now) (ours some) (before joined.now k) s }
 {
-    // The quantifier is a bool: it is compared with what a step shows, and `!` turns it for the other side.
+    // Some step leads there; or, where `some` is false, no step leads elsewhere. A bool and no enum: it is compared
+    // here, and `!` turns it.
     Successors::of(model, s).any(|u| (joined.round(u) < k) == some) == some
 }
 
 /// Is `s` in F (S1, S2, T), where T are the states that joined before round `k`?
+#[tactic(auto, using(std::proofs::lemmas::Bool::Decides::nat_tests), unfolding(logic::specs::FixedPoints::F))]
 pub fn in_f<M: Model>(
     model: &M,
     some: bool,
@@ -31,7 +33,9 @@ pub fn in_f<M: Model>(
     s1.has(s) || s2.has(s) && steps_into(model, some, s, t, k)
 }
 
-/// Is `s` in G (S1, S2, T1, T2), where T1 are the states that joined before round `k` by `t1`, and T2 before `j` by `t2`?
+/// Is `s` in G (S1, S2, T1, T2), where T1 are the states that joined before round `k` by `t1`, and T2 before `j` by
+/// `t2`?
+#[tactic(auto, using(std::proofs::lemmas::Bool::Decides::nat_tests), unfolding(logic::specs::FixedPoints::G))]
 pub fn in_g<M: Model>(
     model: &M,
     some: bool,

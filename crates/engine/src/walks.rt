@@ -1,5 +1,5 @@
 //! One walk that meets a level, or breaks it.
-ghost use Rattle.std.specs.Prelude.{◌≡◌, ◌<◌, ◌≤◌, length};
+ghost use Rattle.std.specs.Prelude.{◌<◌, ◌≤◌, length};
 ghost use Rattle.model.specs.Walkable.{Total};
 ghost use Rattle.engine.specs.Marks.{members};
 ghost use Rattle.engine.specs.Satisfied.{asked, quantifier};
@@ -12,6 +12,7 @@ use crate::tasks::choosing::task_of;
 use model::interface::Model;
 use scale::reading::Reading;
 
+// The pair is the users' form, made in `lasso`.
 /// A walk from `s` that meets a level of this reading, for an E row, or breaks it, for an A row, where left and right
 /// reach it in these sets. Writes its stem and its loop, and answers their lengths, if there is such a walk.
 pub fn show<M: Model>(

@@ -7,14 +7,18 @@ use Rattle.text.specs.Reads.{Got, head_of, and_then, begins_with, choose}
 use Rattle.grammar.specs.Languages.{Language, Then}
 use Rattle.grammar.proofs.Readings.{Lang, Strictly, Nonempty, Both, Other, Out, read, stop, past, Law, Fine, Reads}
 
+-- anything follows from 0 ≡ 1, which cc gives where two different constructors are equal
+pub clash : {A : Type 0} → ◌≡◌ {A = ℕ} 0 1 → A
+clash z = absurd (omega arith)
+
 -- first bytes
 
 pub none_head : (q : List ℕ) → None ≡ head_of q → q ≡ []
 none_head [] h = refl
-none_head (b ∷ q) h = let z : ◌≡◌ {A = ℕ} 0 1 = cc in absurd (omega arith)
+none_head (b ∷ q) h = clash cc
 
 pub some_head : (b : ℕ) (q : List ℕ) → Some b ≡ head_of q → (t : List ℕ) × (q ≡ b ∷ t)
-some_head b [] h = let z : ◌≡◌ {A = ℕ} 0 1 = cc in absurd (omega arith)
+some_head b [] h = clash cc
 some_head b (c ∷ q) h = let e : c ≡ b = cc in (q, ap (λ y. y ∷ q) e)
 
 -- lists that begin with w, and then alike, begin alike
@@ -26,6 +30,13 @@ same_head (b ∷ w) r q h = refl
 pub lenient : (b t : Bool) → Strictly b (t ≡ true) → t ≡ false → b ≡ false
 lenient true t s f = absurd (both_ways t f (s refl))
 lenient false t s f = refl
+
+-- a byte is taken, and the rest is read as H reads it
+module _ {T : Type 0} {G H : List ℕ → Got T} {S R : Lang T} (b : ℕ) (same : (q : List ℕ) → G (b ∷ q) ≡ H q) (longer : (t : Bool) (x : T) (w : List ℕ) → R t x w → S t x (b ∷ w)) where
+  pub one_byte : {bs : List ℕ} → Out H R bs → Out G S (b ∷ bs)
+  one_byte (read w r x e s f) = read (b ∷ w) r x (ap (λ l. b ∷ l) e) (λ t. longer t x w (s t)) (λ q h. same (w ++ q) ∙ f q h)
+  one_byte (stop w r e (x, u, s) f) = stop (b ∷ w) r (ap (λ l. b ∷ l) e) (x, u, longer false x (w ++ u) s) (λ q h. same (w ++ q) ∙ f q h)
+  one_byte {bs} (past o) = past (subst Other (sym (same bs)) o)
 
 -- one after another
 

@@ -172,10 +172,14 @@ by_reads : (k : ℕ) (inner : List Row → List ℕ → Got (List Row)) → ((ro
 by_reads k inner reads rows = reads_map (joined k rows) (parted k rows) (parts_read k inner reads rows)
 
 -- a formula begins with its bracket
+
+bracket_first : {L : Language} (cs w left : List ℕ) → Then (Word (40 ∷ cs)) L w → NoSpace (w ++ left)
+bracket_first cs w left (u, v, e, is, more) = subst (λ l. NoSpace (l ++ left)) (sym (e ∙ ap (λ l. l ++ v) is)) (λ h. omega arith)
+
 formula-first : (f : Formula) (w left : List ℕ) → FormulaSpelled f w → NoSpace (w ++ left)
-formula-first (prop i) w left (u, v, e, is, more) = subst (λ l. NoSpace (l ++ left)) (sym (e ∙ ap (λ l. l ++ v) is)) (λ h. omega arith)
-formula-first (unary k f) w left (u, v, e, is, more) = subst (λ l. NoSpace (l ++ left)) (sym (e ∙ ap (λ l. l ++ v) is)) (λ h. omega arith)
-formula-first (binary k f h) w left (u, v, e, is, more) = subst (λ l. NoSpace (l ++ left)) (sym (e ∙ ap (λ l. l ++ v) is)) (λ h. omega arith)
+formula-first (prop i) w left s = bracket_first (codes "p") w left s
+formula-first (unary k f) w left s = bracket_first (name_of (number_of k)) w left s
+formula-first (binary k f h) w left s = bracket_first (name_of (number_of_binary k)) w left s
 
 -- no formula is lawful where no bracket may be open
 none_reads : (rows : List Row) → Reads (λ l. Err (Many 0)) (Entered (Beneath 0 rows) rows) NoSpace Any

@@ -1,5 +1,5 @@
 -- Lines that begin with a word and a gap, and lines of a word and two numbers.
-use Rattle.std.proofs.Common.{◌≡◌, ℕ, ◌<◌, ◌≤◌, Bool, true, false, cond, eqb, ltb, leb, List, [], ◌∷◌, ◌++◌, length, Ok, Err, sym, refl, ap, ◌∙◌, subst, arith}
+use Rattle.std.proofs.Common.{◌≡◌, ℕ, ◌<◌, ◌≤◌, Bool, true, false, cond, eqb, ltb, leb, List, [], ◌∷◌, ◌++◌, length, Ok, Err, sym, refl, ap, ◌∙◌, subst}
 use Rattle.std.proofs.lemmas.Bool.{true≢false, and_parts, and_from, leb-true, le-leb, ltb-true, lt-ltb}
 use Rattle.text.specs.declared.fault.ReadFault.TheVariants.{Form, Many}
 use Rattle.text.specs.Reads.{Got, and_then, need, word_at, gap_at, within, begins_with}
@@ -7,7 +7,7 @@ use Rattle.text.specs.Lines.{end_at, head_at, pair_at}
 use Rattle.grammar.specs.Languages.{Language, Then, Word, Gap}
 use Rattle.grammar.specs.Spelling.{End, PairSpelled}
 use Rattle.grammar.proofs.Readings.{Lang, Strictly, Both, Other, Out, read, stop, past, Law, Reads, Any, NoSpace, NoDigit}
-use Rattle.grammar.proofs.Binds.{bind, then, value, unless, reads_map, reads_same}
+use Rattle.grammar.proofs.Binds.{clash, bind, then, value, unless, reads_map, reads_same}
 use Rattle.grammar.proofs.Words.{word_reads, gap_reads}
 use Rattle.grammar.proofs.Numbers.{Passing, number_reads}
 
@@ -78,7 +78,7 @@ module _ {U : Type 0} {K : List ℕ → Got U} {S : Lang U} {F : Language} (read
       from (read w r x e s f) = absurd (true≢false ((s true).1 refl))
       from (stop w r e s f) =
           stop w r e s
-          (λ q h. ended_twice (λ g. g ≡ Err (Form (length q))) 0 (at (w ++ q)) (λ d. let z : ◌≡◌ {A = ℕ} 0 1 = cc in absurd (omega arith)) (need (word_at word (w ++ q))) (λ l. need (gap_at l)) (f q h))
+          (λ q h. ended_twice (λ g. g ≡ Err (Form (length q))) 0 (at (w ++ q)) (λ d. clash cc) (need (word_at word (w ++ q))) (λ l. need (gap_at l)) (f q h))
       from (past o) = past (ended_twice Other 0 (at bs) (λ t. t) (need (word_at word bs)) (λ l. need (gap_at l)) o)
 
   pub head_reads : (full : Bool) (at : List ℕ → ℕ) → Reads (λ l. and_then (head_at word full (at l) l) (λ _. K)) (Headed word full S) Any F

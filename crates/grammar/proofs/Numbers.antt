@@ -5,7 +5,7 @@ use Rattle.text.specs.declared.fault.ReadFault.TheVariants.{Range}
 use Rattle.text.specs.Reads.{Got, Part, and_then, need, digits_at, numeral_at, number_at, is_digit}
 use Rattle.grammar.specs.Languages.{Digits, Numeral}
 use Rattle.grammar.proofs.Readings.{Lang, Strictly, Other, Out, read, stop, past, Law, Fine, Full, Reads, NoSpace, NoDigit}
-use Rattle.grammar.proofs.Binds.{lenient}
+use Rattle.grammar.proofs.Binds.{lenient, one_byte}
 use Rattle.grammar.proofs.Words.{at_end, at_byte}
 
 -- the digits after the first
@@ -33,9 +33,7 @@ law_digits zero n (b ∷ bs) =
 law_digits (suc k) n (b ∷ bs) = ⊎_elim (λ d. on d (law_digits k (n * 10 + (b - 48)) bs)) (ends (suc k) n b bs) (cases_Bool (is_digit b))
   where
     on : is_digit b ≡ true → Out (digits_read k (n * 10 + (b - 48))) (Tails k (n * 10 + (b - 48))) bs → Out (digits_read (suc k) n) (Tails (suc k) n) (b ∷ bs)
-    on d (read w r x e s f) = read (b ∷ w) r x (ap (λ l. b ∷ l) e) (λ t. (d, s t)) (λ q h. ap need (digits_on k n b (w ++ q) d) ∙ f q h)
-    on d (stop w r e (x, u, s) f) = stop (b ∷ w) r (ap (λ l. b ∷ l) e) (x, u, (d, s)) (λ q h. ap need (digits_on k n b (w ++ q) d) ∙ f q h)
-    on d (past o) = past (subst Other (sym (ap need (digits_on k n b bs d))) o)
+    on d = one_byte b (λ q. ap need (digits_on k n b q d)) (λ t x w s. (d, s))
 
 digits_end : (k n m : ℕ) (w left : List ℕ) → Digits k n m w → NoDigit left → digits_at k n (w ++ left) ≡ (Some m, left)
 digits_end k n m [] [] s h = ap (λ y. (Some y, [])) (sym s)
@@ -59,9 +57,7 @@ law_numeral [] = stop [] [] refl (0, 48 ∷ [], (refl, refl)) (at_end numeral_at
 law_numeral (b ∷ bs) = ⊎_elim (λ d. on d (law_digits 3 (b - 48) bs)) off (cases_Bool (is_digit b))
   where
     on : is_digit b ≡ true → Out (digits_read 3 (b - 48)) (Tails 3 (b - 48)) bs → Out numeral_read Numerals (b ∷ bs)
-    on d (read w r x e s f) = read (b ∷ w) r x (ap (λ l. b ∷ l) e) (λ t. (d, s t)) (λ q h. ap need (numeral_on b (w ++ q) d) ∙ f q h)
-    on d (stop w r e (x, u, s) f) = stop (b ∷ w) r (ap (λ l. b ∷ l) e) (x, u, (d, s)) (λ q h. ap need (numeral_on b (w ++ q) d) ∙ f q h)
-    on d (past o) = past (subst Other (sym (ap need (numeral_on b bs d))) o)
+    on d = one_byte b (λ q. ap need (numeral_on b q d)) (λ t x w s. (d, s))
 
     off : is_digit b ≡ false → Out numeral_read Numerals (b ∷ bs)
     off d = stop [] (b ∷ bs) refl (0, 48 ∷ [], (refl, refl)) (at_byte numeral_at None b (λ t. cond-false (is_digit b) _ _ d))

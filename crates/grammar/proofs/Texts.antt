@@ -8,7 +8,7 @@ use Rattle.grammar.specs.Languages.{Then, Each}
 use Rattle.grammar.specs.Scripts.{Line, Question, asked}
 use Rattle.grammar.specs.Spelling.{LinesSpelled, AskSpelled}
 use Rattle.grammar.proofs.Readings.{Lang, Strictly, Both, Out, read, stop, past, Law, Fine, Reads, Any, Nothing}
-use Rattle.grammar.proofs.Binds.{none_head, some_head, same_head, lenient, bind}
+use Rattle.grammar.proofs.Binds.{clash, none_head, some_head, same_head, lenient, bind}
 use Rattle.grammar.proofs.Items.{Item, line, ask, extended, ItemSpelled, Allowed, Legal}
 use Rattle.grammar.proofs.Lines.{Next, line_reads, item_first}
 use Rattle.grammar.proofs.Counts.{lined, lined-none, lined_more, line-asks, asks_more, Fits, fits-none, fits_line, line-fits, fits_ask, ask_fits}
@@ -55,12 +55,12 @@ module _ (b : Bool) (z : Said) where
       let others : Rests m j (extended h (ask q)) b z v1 = ([], qs, ze, ([], v1, refl, no_lines m, qsp), inr refl, λ s. (ask_fits q j most (fits s)).1) in
       inr (λ s. let f = fits s in omega arith, (extended h (ask q), (u1, v1, e ∙ (λ i. no_bytes m u lsp i ++ e1 i), next, others)))
   part (Table n p) k j h w most (l ∷ ls, qs, ze, (u, v, e, (u1, v1, e1, sp, lsp), qsp), order, fits) =
-      let none : length h.asks ≡ 0 = ⊎_elim (λ e. e) (λ e. let o : ◌≡◌ {A = ℕ} 0 1 = cc in absurd (omega arith)) order in
+      let none : length h.asks ≡ 0 = ⊎_elim (λ e. e) (λ e. clash cc) order in
       let next : Next (Table n p) h b (extended h (line l)) u1 = (line l, refl, sp, none, λ s. (line-fits j l most (fits s)).0) in
       let said : z ≡ asked (lined (extended h (line l)) ls) qs = ze ∙ ap (λ y. asked y qs) (sym (lined_more h l ls)) in
       let others : Rests (Table n p) j (extended h (line l)) b z (v1 ++ v) = (ls, qs, said, (v1, v, refl, lsp, qsp), inl (ap length (line-asks h l) ∙ none), λ s. (line-fits j l most (fits s)).1) in
       inr (λ s. let f = fits s in omega arith, (extended h (line l), (u1, v1 ++ v, e ∙ ap (λ y. y ++ v) e1 ∙ append_assoc u1 v1 v, next, others)))
-  part (Pool c g) k j h w most (l ∷ ls, qs, ze, (u, v, e, lsp, qsp), order, fits) = let d = lsp.0 in let o : ◌≡◌ {A = ℕ} 0 1 = cc in absurd (omega arith)
+  part (Pool c g) k j h w most (l ∷ ls, qs, ze, (u, v, e, lsp, qsp), order, fits) = let d = lsp.0 in clash cc
 
 -- the reader of lines
 

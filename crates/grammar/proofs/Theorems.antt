@@ -1,5 +1,5 @@
 -- What the reader owes to the language of texts.
-use Rattle.std.proofs.Common.{◌≡◌, ℕ, zero, suc, Bool, true, false, List, [], ◌∷◌, ◌++◌, length, Ok, Err, sym, refl, ap, ◌∙◌, subst, append_assoc, append-nil, arith}
+use Rattle.std.proofs.Common.{◌≡◌, ℕ, zero, suc, Bool, true, false, List, [], ◌∷◌, ◌++◌, length, Ok, Err, sym, refl, ap, ◌∙◌, subst, append_assoc, append-nil}
 use Rattle.std.proofs.lemmas.Bool.{true≢false, false≢true}
 use Rattle.text.specs.declared.fault.ReadFault.TheVariants.{Form, Range, Many}
 use Rattle.text.specs.declared.script.Source.{Source}
@@ -10,6 +10,7 @@ use Rattle.grammar.specs.Scripts.{Script, told}
 use Rattle.grammar.specs.Spelling.{Spells}
 use Rattle.grammar.specs.Laws.{ReadWhereLawful, Unfit, FormFaultWhereUnfit}
 use Rattle.grammar.proofs.Readings.{Other, Out, read, stop, past, Fine}
+use Rattle.grammar.proofs.Binds.{clash}
 use Rattle.grammar.proofs.Scripts.{Scripts, script_reads}
 
 -- nothing is left of a text that was read
@@ -38,10 +39,10 @@ script_ends bs = ends_then (scale_at bs) _ (λ d b1. ends_then (source_at b1) _ 
 
 was_read : {T : Type 0} (x : T) (g : Got T) → Ends g → answer_of g ≡ Ok x → g ≡ Ok (x, [])
 was_read x (Ok p) ends a = let e : p.0 ≡ x = cc in λ i. Ok (e i, ends i)
-was_read x (Err e) ends a = let z : ◌≡◌ {A = ℕ} 0 1 = cc in absurd (omega arith)
+was_read x (Err e) ends a = clash cc
 
 was_unfit : {T : Type 0} (k : ℕ) (g : Got T) → answer_of g ≡ Err (Form k) → g ≡ Err (Form k)
-was_unfit k (Ok p) a = let z : ◌≡◌ {A = ℕ} 0 1 = cc in absurd (omega arith)
+was_unfit k (Ok p) a = clash cc
 was_unfit k (Err e) a = let d : e ≡ Form k = cc in ap Err d
 
 answered : {T : Type 0} (x : T) (g : Got T) → Fine true g x [] → answer_of g ≡ Ok x
@@ -64,13 +65,13 @@ sound bs t g (read w r x e s f) =
     subst (λ y. Scripts true y bs) (ap (λ y. y.0) pair) (subst (Scripts true x) (sym (e ∙ ap (λ y. w ++ y.1) pair ∙ append-nil w)) (s true))
 sound bs t g (stop w r e s f) =
     let differ : ◌≡◌ {A = Got Told} (Err (Form (length r))) (Ok (t, [])) = sym (f r refl) ∙ ap script_at (sym e) ∙ g in
-    let z : ◌≡◌ {A = ℕ} 0 1 = cc in absurd (omega arith)
+    clash cc
 sound bs t g (past o) = absurd (subst Other g o)
 
 unfit : (bs : List ℕ) (k : ℕ) → script_at bs ≡ Err (Form k) → Out script_at Scripts bs → Unfit bs k
 unfit bs k g (read w r x e s f) =
     let differ : ◌≡◌ {A = Got Told} (Ok (x, r)) (Err (Form k)) = sym (f r refl) ∙ ap script_at (sym e) ∙ g in
-    let z : ◌≡◌ {A = ℕ} 0 1 = cc in absurd (omega arith)
+    clash cc
 unfit bs k g (stop w r e (t, u, (s, te, sp, lawful)) f) =
     let same : ◌≡◌ {A = Got Told} (Err (Form (length r))) (Err (Form k)) = sym (f r refl) ∙ ap script_at (sym e) ∙ g in
     let long : length r ≡ k = cc in

@@ -3,8 +3,8 @@ use Rattle.std.proofs.Common.{◌≡◌, ℕ, eqb, List, [], ◌∷◌, ◌++◌
 use Rattle.std.proofs.lemmas.Bool.{cases_eq, eq-eqb, ne_eqb, cond-true, cond-false}
 use Rattle.text.specs.Reads.{Got, Part, head_of, need, word_at, gap_at, spaces}
 use Rattle.grammar.specs.Languages.{Language, Word, Spaces, Gap}
-use Rattle.grammar.proofs.Readings.{Lang, Other, Out, read, stop, past, Law, Fine, Reads, Any, NoSpace}
-use Rattle.grammar.proofs.Binds.{none_head, some_head}
+use Rattle.grammar.proofs.Readings.{Lang, Out, read, stop, Law, Fine, Reads, Any, NoSpace}
+use Rattle.grammar.proofs.Binds.{none_head, some_head, one_byte}
 
 -- what a part gives where it takes no byte: at the end, and before a byte
 
@@ -35,9 +35,9 @@ law_word (c ∷ cs) [] = stop [] [] refl (tt, c ∷ cs, refl) (at_end (word_at (
 law_word (c ∷ cs) (b ∷ bs) = ⊎_elim (λ e. more e (law_word cs bs)) unlike (cases_eq b c)
   where
     more : b ≡ c → Out (word_read cs) (Spelled cs) bs → Out (word_read (c ∷ cs)) (Spelled (c ∷ cs)) (b ∷ bs)
-    more e (read w r x k s f) = read (c ∷ w) r tt (λ i. e i ∷ k i) (λ t. ap (λ l. c ∷ l) (s t)) (λ q h. ap need (word_same c cs (w ++ q)) ∙ f q h)
-    more e (stop w r k (x, u, s) f) = stop (c ∷ w) r (λ i. e i ∷ k i) (tt, u, ap (λ l. c ∷ l) s) (λ q h. ap need (word_same c cs (w ++ q)) ∙ f q h)
-    more e (past o) = past (subst Other (sym (ap (λ y. word_read (c ∷ cs) (y ∷ bs)) e ∙ ap need (word_same c cs bs))) o)
+    more e o =
+        subst (λ y. Out (word_read (c ∷ cs)) (Spelled (c ∷ cs)) (y ∷ bs)) (sym e)
+        (one_byte c (λ q. ap need (word_same c cs q)) (λ t x w s. ap (λ l. c ∷ l) s) o)
 
     unlike : (b ≡ c → ⊥) → Out (word_read (c ∷ cs)) (Spelled (c ∷ cs)) (b ∷ bs)
     unlike ne = stop [] (b ∷ bs) refl (tt, c ∷ cs, refl) (at_byte (word_at (c ∷ cs)) None b (word_other b c cs ne))

@@ -19,18 +19,29 @@ use Rattle.text.specs.Scripts.{Told, script_at, answer_of}
 use Rattle.grammar.specs.Scripts.{Script, told}
 use Rattle.grammar.specs.Spelling.{Spells}
 use Rattle.grammar.specs.Lawful.{Lawful}
+use Rattle.grammar.specs.Laws.{Unfit}
+use Rattle.grammar.proofs.Binds.{clash}
 use Rattle.grammar.proofs.Theorems.{read_where_lawful, form_fault_where_unfit}
 use Rattle.listing.specs.declared.answers.Answer.{Answer}
-use Rattle.listing.specs.Faults.{Telling}
+use Rattle.listing.specs.Faults.{Telling, telling, placed}
 use Rattle.listing.specs.Laws.{OfLanguage, ListedByLanguage}
 use Rattle.listing.specs.Listings.{Given, lines_of, listing, script_of}
+use Rattle.listing.specs.Places.{place_of}
 use Rattle.listing.specs.Runs.{then, told_at, enter_all, ask_one, ask_from, ask_all, meaning_of, grades_of, answers_of}
+use Rattle.listing.specs.Writing.{fault_line}
 
 -- the sheet refuses with numbers up to 13
 
+abbrev UpTo13 : {X E : Type 0} → (E → ℕ) → Result X E → Type 0
+UpTo13 number (Ok x) = Unit {0}
+UpTo13 number (Err e) = number e ≤ 13
+
+up_to_then : {X Y E : Type 0} (number : E → ℕ) (a : Result X E) (f : X → Result Y E) → UpTo13 number a → ((x : X) → UpTo13 number (f x)) → UpTo13 number (then a f)
+up_to_then number (Ok x) f h k = k x
+up_to_then number (Err e) f h k = h
+
 abbrev Low : {X : Type 0} → Result X Refusal → Type 0
-Low (Ok x) = Unit {0}
-Low (Err e) = e.number ≤ 13
+Low = UpTo13 (λ e. e.number)
 
 low_if : (b : Bool) (e : Refusal) → e.number ≤ 13 → Low (refuse_if b e)
 low_if true e h = h
@@ -43,10 +54,6 @@ low_and (Err e) r h k = h
 -- a check with the number n, and what follows it
 low_check : {X : Type 0} (b : Bool) (n : ℕ) (r : Result X Refusal) → n ≤ 13 → Low r → Low (and_then (refuse_if b (refusal n 0)) r)
 low_check b n r h k = low_and (refuse_if b (refusal n 0)) r (low_if b (refusal n 0) h) k
-
-low_then : {X Y : Type 0} (a : Result X Refusal) (f : X → Result Y Refusal) → Low a → ((x : X) → Low (f x)) → Low (then a f)
-low_then (Ok x) f h k = k x
-low_then (Err e) f h k = h
 
 low_dead : (o : Option ℕ) → Low (refused_at o)
 low_dead None = tt
@@ -81,36 +88,31 @@ module _ (m : Meaning) (g : Grades) where
 
   low_all : (s : State) (xs : List Row) → Low (enter_all m g s xs)
   low_all s [] = tt
-  low_all s (x ∷ xs) = low_then (enter_answer m g s x) _ (low_enter s x) (λ _. low_all (enter_leaves m g s x) xs)
+  low_all s (x ∷ xs) = up_to_then _ (enter_answer m g s x) _ (low_enter s x) (λ _. low_all (enter_leaves m g s x) xs)
 
   low_ask : (s : State) (xs : List Row) (a : Ask) → Low (ask_one m g s xs a)
-  low_ask s xs a = low_then (enter_all m g s xs) _ (low_all s xs) (λ t. low_then (degree_answer t a.row a.state) _ (low_degree t a.row a.state) (λ _. tt))
+  low_ask s xs a = up_to_then _ (enter_all m g s xs) _ (low_all s xs) (λ t. up_to_then _ (degree_answer t a.row a.state) _ (low_degree t a.row a.state) (λ _. tt))
 
 -- and so does a run
 
 abbrev Little : {X : Type 0} → Result X Telling → Type 0
-Little (Ok x) = Unit {0}
-Little (Err t) = t.number ≤ 13
+Little = UpTo13 (λ t. t.number)
 
 little_at : {X : Type 0} (line : ℕ) (r : Result X Refusal) → Low r → Little (told_at line r)
 little_at line (Ok x) h = tt
 little_at line (Err e) h = h
 
-little_then : {X Y : Type 0} (a : Result X Telling) (f : X → Result Y Telling) → Little a → ((x : X) → Little (f x)) → Little (then a f)
-little_then (Ok x) f h k = k x
-little_then (Err e) f h k = h
-
 module _ (m : Meaning) (g : Grades) where
   little_from : (rows : List Row) (s : State) (entered line : ℕ) (done : List Answer) (asks : List Ask) → Little (ask_from m g rows s entered line done asks)
   little_from rows s entered line done [] = tt
   little_from rows s entered line done (a ∷ asks) =
-      little_then (told_at line (ask_one m g s (between entered (a.row + 1) rows) a)) _ (little_at line (ask_one m g s (between entered (a.row + 1) rows) a) (low_ask m g s _ a))
+      up_to_then _ (told_at line (ask_one m g s (between entered (a.row + 1) rows) a)) _ (little_at line (ask_one m g s (between entered (a.row + 1) rows) a) (low_ask m g s _ a))
       (λ p. little_from rows p.0 (a.row + 1) (line + 1) (done ++ (p.1 ∷ [])) asks)
 
   little_run : (h : Said) → Little (ask_all m g h)
   little_run h =
       let open' = open_answer m g (replicate 32 (row_for 0 0 0)) (replicate 16384 0) in
-      little_then (told_at 2 open') _ (little_at 2 open' (low_open m g (replicate 32 (row_for 0 0 0)) (replicate 16384 0))) (λ s. little_from h.rows s 0 _ [] h.asks)
+      up_to_then _ (told_at 2 open') _ (little_at 2 open' (low_open m g (replicate 32 (row_for 0 0 0)) (replicate 16384 0))) (λ s. little_from h.rows s 0 _ [] h.asks)
 
 abbrev on_scale : Told → List Answer → Result Given Telling
 on_scale t l = Ok (record { levels = t.levels; list = l })
@@ -121,7 +123,7 @@ low_number (Err t) h = h
 
 number_of : (t : Told) → (lines_of (then (answers_of t) (on_scale t))).1 ≤ 13
 number_of t = low_number (then (answers_of t) (on_scale t))
-    (little_then (answers_of t) (on_scale t) (little_run (meaning_of t.source t.said) (grades_of t.levels) t.said) (λ _. tt))
+    (up_to_then _ (answers_of t) (on_scale t) (little_run (meaning_of t.source t.said) (grades_of t.levels) t.said) (λ _. tt))
 
 -- the law, by what the reader answers
 
@@ -136,7 +138,17 @@ module _ (text before : List ℕ) where
   none : {A : Type 0} (e : ReadFault) → Err e ≡ answer_of (script_at text) → (s : Script) → Spells s text → Lawful s → A
   none e r s sp lawful =
       let is : answer_of (script_at text) ≡ Ok (told s) = (read_where_lawful text (told s)).1 (s, sp, lawful, refl) in
-      let z : ◌≡◌ {A = ℕ} 0 1 = cc in absurd (omega arith)
+      clash cc
+
+  by_fault : (e : ReadFault) → Err e ≡ answer_of (script_at text) → 15 ≤ (placed text e).number → (placed text e).number ≤ 17
+      → ((placed text e).number ≡ 15 → (k : ℕ) × Unfit text k × (fault_line (placed text e) ++ drop (length (fault_line (placed text e))) before ≡ fault_line (telling 15 (place_of text k).0 (place_of text k).1 0) ++ drop (length (fault_line (placed text e))) before))
+      → Says (out (Err e))
+  by_fault e r low high unfit =
+      record {
+        accepted = (λ (s, sp, lawful) a b. none e r s sp lawful, λ h. absurd (h low high));
+        scripted = λ s sp lawful. none e r s sp lawful;
+        unfit = unfit;
+      }
 
   by_answer : (r : Result Told ReadFault) → r ≡ answer_of (script_at text) → Says (out r)
   by_answer (Ok t) r =
@@ -148,24 +160,9 @@ module _ (text before : List ℕ) where
             (ap (λ (t : Told). (out (Ok t)).1) same, ap (λ (t : Told). (out (Ok t)).0 ++ drop (length (out (Ok t)).0) before) same);
         unfit = λ e. absurd (omega (arith, number_of t));
       }
-  by_answer (Err (Form k)) r =
-      record {
-        accepted = (λ (s, sp, lawful) a b. none (Form k) r s sp lawful, λ h. absurd (h (omega arith) (omega arith)));
-        scripted = λ s sp lawful. none (Form k) r s sp lawful;
-        unfit = λ e. (k, form_fault_where_unfit text k (sym r), refl);
-      }
-  by_answer (Err (Range k)) r =
-      record {
-        accepted = (λ (s, sp, lawful) a b. none (Range k) r s sp lawful, λ h. absurd (h (omega arith) (omega arith)));
-        scripted = λ s sp lawful. none (Range k) r s sp lawful;
-        unfit = λ e. absurd (omega arith);
-      }
-  by_answer (Err (Many k)) r =
-      record {
-        accepted = (λ (s, sp, lawful) a b. none (Many k) r s sp lawful, λ h. absurd (h (omega arith) (omega arith)));
-        scripted = λ s sp lawful. none (Many k) r s sp lawful;
-        unfit = λ e. absurd (omega arith);
-      }
+  by_answer (Err (Form k)) r = by_fault (Form k) r (omega arith) (omega arith) (λ e. (k, form_fault_where_unfit text k (sym r), refl))
+  by_answer (Err (Range k)) r = by_fault (Range k) r (omega arith) (omega arith) (λ e. absurd (omega arith))
+  by_answer (Err (Many k)) r = by_fault (Many k) r (omega arith) (omega arith) (λ e. absurd (omega arith))
 
   -- what the call gives where neither length is refused
   abbrev shown : List ℕ × ℕ → ℕ × ℕ × List ℕ

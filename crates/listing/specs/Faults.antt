@@ -1,5 +1,5 @@
 -- What each refusal of the listing call tells: its number, its place, and the value that it names, else 0.
-use Rattle.std.specs.Prelude.{ℕ, cond, List, Ok, Err, codes, Result, nat_le}
+use Rattle.std.specs.Prelude.{ℕ, cond, List, codes, nat_le}
 use Rattle.model.specs.Faults.{Refusal}
 use Rattle.sheet.specs.Faults.{told as told_of_sheet}
 use Rattle.text.specs.declared.fault.ReadFault.{ReadFault}
@@ -28,11 +28,6 @@ told (Form p) = telling 15 p.line p.column 0
 told (Range p) = telling 16 p.line p.column 0
 told (Many p) = telling 17 p.line p.column 0
 told (Sheet line e) = at_line line (told_of_sheet e)
-
--- an answer, with what its fault tells
-abbrev pub answer : {X : Type 0} → Result X TextFault → Result X Telling
-answer (Ok x) = Ok x
-answer (Err e) = Err (told e)
 
 -- who refuses: the model 1 and 2, the sheet up to 13, the text from 14 on
 abbrev pub who : ℕ → List ℕ

@@ -1,5 +1,5 @@
 -- What the listing call gives for a text.
-use Rattle.std.specs.Prelude.{ℕ, cond, List, ◌++◌, length, drop, Ok, Err, Result, nat_lt}
+use Rattle.std.specs.Prelude.{ℕ, cond, List, ◌++◌, length, drop, Some, None, Ok, Err, Option, Result, nat_lt}
 use Rattle.text.specs.declared.fault.ReadFault.{ReadFault}
 use Rattle.text.specs.declared.script.Script.{Script}
 use Rattle.text.specs.Scripts.{Told, told_in, script_at, answer_of}
@@ -40,9 +40,9 @@ lines_of (Ok a) = (degree_lines a.levels 0 a.list, 0)
 lines_of (Err t) = (fault_line t, t.number)
 
 -- the number of a fault, or 0
-abbrev pub number_in : Result Unit TextFault → ℕ
-number_in (Ok _) = 0
-number_in (Err e) = (told e).number
+abbrev pub number_in : Option TextFault → ℕ
+number_in None = 0
+number_in (Some e) = (told e).number
 
 -- the call on a text and a buffer: bytes written, the refusal's number or 0, and what the buffer then holds
 abbrev pub listing : List ℕ → List ℕ → ℕ × ℕ × List ℕ

@@ -44,11 +44,13 @@ module _ (m : Meaning) (g : Grades) where
   ask_from rows s entered line done (a ∷ more) =
       then (told_at line (ask_one s (between entered (a.row + 1) rows) a)) (λ p. ask_from rows p.0 (a.row + 1) (line + 1) (done ++ (p.1 ∷ [])) more)
 
+  -- all asks, on a sheet without rows; their lines follow those of the scale, the model, the steps and the holdings
+  abbrev pub asks_on : Said → State → Result (List Answer) Telling
+  asks_on h s = ask_from h.rows s 0 (3 + length h.steps + length h.holdings) [] h.asks
+
   -- the sheet's buffers: 32 records and 32 × 512 bytes
   abbrev pub ask_all : Said → Result (List Answer) Telling
-  ask_all h =
-      then (told_at 2 (open_answer m g (replicate 32 (row_for 0 0 0)) (replicate 16384 0))) (λ s.
-      ask_from h.rows s 0 (3 + length h.steps + length h.holdings) [] h.asks)
+  ask_all h = then (told_at 2 (open_answer m g (replicate 32 (row_for 0 0 0)) (replicate 16384 0))) (asks_on h)
 
 abbrev pub meaning_of : Source → Said → Meaning
 meaning_of (Table n p) h = listed n p h.steps h.holdings

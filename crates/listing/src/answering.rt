@@ -1,5 +1,5 @@
 //! A text and its degrees.
-ghost use Rattle.std.specs.Prelude.{◌≡◌, ◌≤◌, length};
+ghost use Rattle.std.specs.Prelude.{◌≡◌};
 ghost use Rattle.text.specs.Scripts.{said_in, told_in, script_at, answer_of};
 ghost use Rattle.listing.specs.Faults.{told, placed};
 ghost use Rattle.listing.specs.Listings.{given_in, script_in, script_of, answers_to};
@@ -21,7 +21,6 @@ use text::script::{Body, Script, Source};
 /// The reader's fault, at its line and column.
 // Not a `From`: the place needs the text as well.
 fn at_place(text: &[u8], fault: ReadFault) -> TextFault
-    requires { length text.now ≤ 16384 }
     ensures { told result ≡ placed text.now fault }
 {
     match fault {
@@ -33,17 +32,16 @@ fn at_place(text: &[u8], fault: ReadFault) -> TextFault
 
 /// Reads a text.
 fn script(text: &[u8]) -> Result<Script, TextFault>
-    requires { length text.now ≤ 16384 }
     ensures { script_in result ≡ script_of text.now (answer_of (script_at text.now)) }
 {
     read(text).map_err(|fault| at_place(text, fault))
 }
 
 /// Answers the asks of a script over a model, on the scale with so many levels.
-// Not an enum: the number counts the scale's levels, and `digits` takes it so; each scale is a type of its own.
 fn on_scale<M: Model>(model: &M, levels: u8, body: &Body) -> Result<ArrayVec<Answer, 8>, TextFault>
     ensures { listed result ≡ ask_all (M.meaning model.now) (grades_of levels) (said_in body.now) }
 {
+    // One `if` between two scales, each a type of its own.
     if levels == 1 {
         run(model, &Boolean, body)
     } else {
@@ -52,16 +50,16 @@ fn on_scale<M: Model>(model: &M, levels: u8, body: &Body) -> Result<ArrayVec<Ans
 }
 
 /// Answers the asks of a script.
-fn ask(script: &Script) -> Result<ArrayVec<Answer, 8>, TextFault>
-    ensures { listed result ≡ answers_of (told_in script.now) }
+fn ask(said: &Script) -> Result<ArrayVec<Answer, 8>, TextFault>
+    ensures { listed result ≡ answers_of (told_in said.now) }
 {
-    match script.source {
+    match said.source {
         Source::Table(states, props) => {
-            let table = script.body.table(states, props);
-            on_scale(&table, script.levels, &script.body)
+            let table = said.body.table(states, props);
+            on_scale(&table, said.levels, &said.body)
         }
         Source::Pool(buffers, guard) => {
-            on_scale(&Pool { buffers, guard }, script.levels, &script.body)
+            on_scale(&Pool { buffers, guard }, said.levels, &said.body)
         }
     }
 }
@@ -73,10 +71,10 @@ pub fn answers(text: &[u8]) -> Result<Answers, TextFault>
     if text.len() > 16384 {
         return Err(TextFault::Long);
     }
-    let script = script(text)?;
-    let list = ask(&script)?;
+    let said = script(text)?;
+    let list = ask(&said)?;
     Ok(Answers {
-        levels: script.levels,
+        levels: said.levels,
         list,
     })
 }

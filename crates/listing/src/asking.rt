@@ -1,8 +1,8 @@
 //! Asks of a script, on a sheet.
-ghost use Rattle.std.specs.Prelude.{◌≡◌, ℕ, ◌+◌, ◌≤◌, List, [], length};
+ghost use Rattle.std.specs.Prelude.{◌≡◌};
 ghost use Rattle.std.specs.List.{between};
 ghost use Rattle.text.specs.Scripts.{said_in};
-ghost use Rattle.listing.specs.Runs.{enter_all, ask_one, ask_from, ask_all};
+ghost use Rattle.listing.specs.Runs.{enter_all, ask_one, asks_on, ask_all};
 ghost use Rattle.listing.specs.Sheets.{state, entered, asked, listed};
 
 use crate::answers::Answer;
@@ -57,22 +57,17 @@ impl<'a, M: Model, S: Scale> Desk<'a, M, S> {
     }
 
     /// Answers the asks of a script, one after another, on a sheet without rows.
-    fn ask_all(
-        &mut self,
-        rows: &[Row],
-        asks: &[Ask],
-        first: usize,
-    ) -> Result<ArrayVec<Answer, 8>, TextFault>
-        requires { (first ≤ 4096) × (length asks.now ≤ 8) }
-        ensures { listed result ≡ ask_from (M.meaning self.old.model.now) (S.grades self.old.scale.now) rows.now (state self.old) 0 first [] asks.now }
+    fn ask_all(&mut self, body: &Body) -> Result<ArrayVec<Answer, 8>, TextFault>
+        ensures { listed result ≡ asks_on (M.meaning self.old.model.now) (S.grades self.old.scale.now) (said_in body.now) (state self.old) }
     {
+        let first = 3 + body.steps.len() + body.holdings.len();
         let mut done = ArrayVec::new();
         let mut entered = 0;
-        for (i, ask) in asks.iter().enumerate() {
+        for (i, ask) in body.asks.iter().enumerate() {
             let line = first + i;
-            let upto = ask.row as usize + 1;
+            let upto = usize::from(ask.row) + 1;
             let answer = self
-                .ask_one(part(rows, entered, upto), *ask)
+                .ask_one(part(body.rows.as_slice(), entered, upto), *ask)
                 .map_err(|fault| AtLine { line, fault })?;
             done.push(answer);
             entered = upto;
@@ -102,14 +97,8 @@ pub(crate) fn run<M: Model, S: Scale>(
         model,
         scale,
         sheet,
-        // Zeros in sight, as the definition of a run has them.
-        records: [Row {
-            kind: 0,
-            a: 0,
-            b: 0,
-        }; 32],
+        records: [Row::default(); 32],
         bytes: [0; 16384],
     };
-    let first = 3 + body.steps.len() + body.holdings.len();
-    desk.ask_all(body.rows.as_slice(), body.asks.as_slice(), first)
+    desk.ask_all(body)
 }

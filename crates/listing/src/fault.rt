@@ -12,6 +12,7 @@ pub struct Place {
     pub column: usize,
 }
 
+// A type of its own: a fault of the sheet becomes one of the text by `From`, with its line, as the users ask.
 /// A fault of the sheet, and the line of the text to which it belongs.
 #[derive(Clone, Copy, PartialEq, Eq, Debug)]
 pub struct AtLine {
@@ -45,6 +46,7 @@ impl From<AtLine> for TextFault {
 }
 
 impl TextFault {
+    // `number`, `place` and `value` tell three things of a fault: each is one match, and all in one would be no clearer.
     /// The fault's number.
     pub fn number(self) -> u8
         ensures { result ≡ (told self).number }
@@ -70,6 +72,7 @@ impl TextFault {
         }
     }
 
+    // 0 and no `None`: the listing prints it so.
     /// The state that the fault names, else 0.
     pub fn value(self) -> u16
         ensures { result ≡ (told self).value }

@@ -1,15 +1,16 @@
 //! The listing call.
-ghost use Rattle.std.specs.Prelude.{◌≡◌, ◌≤◌, [], length};
+ghost use Rattle.std.specs.Prelude.{◌≡◌, ◌≤◌, length};
 ghost use Rattle.listing.specs.Laws.{ListedByLanguage};
-ghost use Rattle.listing.specs.Listings.{listing, lines_of, answers_to, number_in};
+ghost use Rattle.listing.specs.Listings.{given_in, listing, lines_of, number_in};
 
 use crate::answering::answers;
+use crate::answers::Answers;
 use crate::fault::TextFault;
 use crate::writing::{copy, degree_lines, fault_line};
 use arrayvec::ArrayString;
 
 /// What the listing call answers: how many bytes it wrote, and the number of the refusal, 0 for none.
-// Not a `Result`: a refusal writes a line as well, so both have a count of bytes, and a script compares the number.
+// Not a `Result`: a refusal writes a line as well, so both have a count of bytes; users compare the number.
 #[derive(Clone, Copy, PartialEq, Eq, Debug)]
 pub struct Listed {
     pub written: usize,
@@ -18,45 +19,24 @@ pub struct Listed {
 
 impl Listed {
     /// So many bytes written, with or without a fault.
-    fn of(written: usize, outcome: Result<(), TextFault>) -> Listed
-        ensures { (result.written ≡ written) × (result.number ≡ number_in outcome) }
+    fn of(written: usize, fault: Option<TextFault>) -> Listed
+        ensures { (result.written ≡ written) × (result.number ≡ number_in fault) }
     {
         Listed {
             written,
-            number: outcome.err().map_or(0, TextFault::number),
+            number: fault.map_or(0, TextFault::number),
         }
     }
 }
 
-/// Writes the listing of a text: its degrees, or its fault.
-fn write_lines(text: &[u8], out: &mut ArrayString<256>) -> Result<(), TextFault>
-    requires { out.old.bytes ≡ [] }
-    ensures { (out.new.bytes, number_in result) ≡ lines_of (answers_to text.now) }
+/// The lines of a listing: a text's degrees, or its fault.
+fn lines_of(given: &Result<Answers, TextFault>) -> ArrayString<256>
+    ensures { result.bytes ≡ (lines_of (given_in given.now)).0 }
 {
-    match answers(text) {
-        Ok(answers) => {
-            degree_lines(out, &answers);
-            Ok(())
-        }
-        Err(fault) => {
-            fault_line(out, fault);
-            Err(fault)
-        }
+    match given {
+        Ok(degrees) => degree_lines(degrees),
+        Err(fault) => fault_line(*fault),
     }
-}
-
-/// Lists a text at the front of a buffer.
-fn list_into(text: &[u8], buffer: &mut [u8]) -> Listed
-    ensures within { result.written ≤ length buffer.old }
-    ensures exact { (result.written, result.number, buffer.new) ≡ listing text.now buffer.old }
-{
-    if buffer.len() < 256 {
-        return Listed::of(0, Err(TextFault::Buffer));
-    }
-    let mut out = ArrayString::new();
-    let outcome = write_lines(text, &mut out);
-    copy(buffer, out.as_str().as_bytes());
-    Listed::of(out.len(), outcome)
 }
 
 /// Lists the degrees that a text asks for, or its fault, at the front of a buffer; what follows stays as it is.
@@ -67,5 +47,11 @@ pub fn list(text: &[u8], buffer: &mut [u8]) -> Listed
     ensures exact { (result.written, result.number, buffer.new) ≡ listing text.now buffer.old }
     ensures language { ListedByLanguage text.now buffer.old result.written result.number buffer.new }
 {
-    list_into(text, buffer)
+    if buffer.len() < 256 {
+        return Listed::of(0, Some(TextFault::Buffer));
+    }
+    let given = answers(text);
+    let lines = lines_of(&given);
+    copy(buffer, lines.as_str().as_bytes());
+    Listed::of(lines.len(), given.err())
 }

@@ -1,15 +1,15 @@
 //! Lines and columns.
-ghost use Rattle.std.specs.Prelude.{◌≡◌, ◌≤◌, length};
+ghost use Rattle.std.specs.Prelude.{◌≡◌};
 ghost use Rattle.listing.specs.Places.{place_after, place_of};
 
 use crate::fault::Place;
 
 /// The line and the column just after these bytes.
 fn place_after(text: &[u8]) -> Place
-    requires { length text.now ≤ 16384 }
     ensures { (result.line, result.column) ≡ place_after text.now }
 {
-    // Both are counted in one pass; a chain for each would go over the text twice.
+    // Both are counted in one pass; a chain for each would go over the text twice; one `fold` over both would make the
+    // place anew for each byte, and reads no plainer.
     let mut line = 1;
     let mut column = 1;
     for b in text {
@@ -25,9 +25,8 @@ fn place_after(text: &[u8]) -> Place
 
 /// The line and the column from which so many bytes of the text are left.
 pub(crate) fn place_of(text: &[u8], left: usize) -> Place
-    requires { length text.now ≤ 16384 }
     ensures { (result.line, result.column) ≡ place_of text.now left }
 {
     let before = text.len().saturating_sub(left);
-    place_after(&text[0..before])
+    place_after(&text[..before])
 }

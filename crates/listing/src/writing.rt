@@ -1,5 +1,5 @@
 //! Degrees and faults in bytes.
-ghost use Rattle.std.specs.Prelude.{◌≡◌, ◌+◌, ◌<◌, ◌≤◌, [], ◌++◌, length, drop, decimal};
+ghost use Rattle.std.specs.Prelude.{◌≡◌, ◌+◌, ◌<◌, ◌≤◌, ◌++◌, length, drop, decimal};
 ghost use Rattle.arrayvec.specs.ArrayString.{array_string_len};
 ghost use Rattle.listing.specs.Faults.{told, who};
 ghost use Rattle.scale.specs.Digits.{written};
@@ -52,19 +52,20 @@ fn degree_line(out: &mut ArrayString<256>, levels: u8, i: usize, answer: Answer)
 {
     out.push_str("(degree");
     put_number(out, i);
-    put_number(out, answer.state as usize);
+    put_number(out, usize::from(answer.state));
     put_text(out, digits_of(levels, answer.degree));
     out.push_str(")\n");
 }
 
-/// Adds a line for each answer.
-pub(crate) fn degree_lines(out: &mut ArrayString<256>, answers: &Answers)
-    requires { out.old.bytes ≡ [] }
-    ensures { out.new.bytes ≡ degree_lines answers.now.levels 0 answers.now.list.items }
+/// A line for each answer.
+pub(crate) fn degree_lines(answers: &Answers) -> ArrayString<256>
+    ensures { result.bytes ≡ degree_lines answers.now.levels 0 answers.now.list.items }
 {
-    for (i, answer) in answers.list.as_slice().iter().enumerate() {
-        degree_line(out, answers.levels, i, *answer);
+    let mut out = ArrayString::new();
+    for (i, answer) in answers.list.iter().enumerate() {
+        degree_line(&mut out, answers.levels, i, *answer);
     }
+    out
 }
 
 /// Who refuses with this fault.
@@ -79,19 +80,20 @@ fn refuser(fault: TextFault) -> &'static str
     }
 }
 
-/// Adds the line of a fault.
-pub(crate) fn fault_line(out: &mut ArrayString<256>, fault: TextFault)
-    requires { out.old.bytes ≡ [] }
-    ensures { out.new.bytes ≡ fault_line (told fault) }
+/// The line of a fault.
+pub(crate) fn fault_line(fault: TextFault) -> ArrayString<256>
+    ensures { result.bytes ≡ fault_line (told fault) }
 {
     let place = fault.place();
+    let mut out = ArrayString::new();
     out.push_str("(fault");
-    put_text(out, refuser(fault));
-    put_number(out, fault.number() as usize);
-    put_number(out, place.line);
-    put_number(out, place.column);
-    put_number(out, fault.value() as usize);
+    put_text(&mut out, refuser(fault));
+    put_number(&mut out, usize::from(fault.number()));
+    put_number(&mut out, place.line);
+    put_number(&mut out, place.column);
+    put_number(&mut out, usize::from(fault.value()));
     out.push_str(")\n");
+    out
 }
 
 /// Copies bytes to the front of a buffer.

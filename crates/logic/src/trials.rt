@@ -5,6 +5,7 @@ ghost use Rattle.logic.specs.Trials.{table, TableTrue, BrokenAtFour, UnbrokenAtT
 /// A trial's number, a state, and the truth value of the trial's formula there.
 #[derive(Clone, Copy, PartialEq, Eq, Debug)]
 pub struct Entry {
+    // A number, as the theorem over the table has it.
     pub trial: u8,
     pub state: u16,
     pub degree: u8,

@@ -1,6 +1,8 @@
 -- The least number that passes, of two tests joined and of two tests that agree.
-use Rattle.std.proofs.Common.{◌≡◌, ℕ, ◌<◌, ◌≤◌, min, Bool, true, ◌⊎◌, Some, None, Option, sym, refl, ap, subst, ⊎_elim, arith}
+use Rattle.std.proofs.Common.{◌≡◌, ℕ, ◌<◌, ◌≤◌, min, Bool, true, false, leb, ◌⊎◌, Some, None, Option, sym, refl, ap, subst, ⊎_elim, arith}
+use Rattle.std.specs.Bool.{then_some}
 use Rattle.std.proofs.lemmas.Bool.{cases_lt, cases_order}
+use Rattle.std.proofs.lemmas.Bool.Decides.{nat_tests}
 use Rattle.model.specs.Lesser.{lesser_of}
 use Rattle.model.specs.Meaning.{Least}
 
@@ -35,3 +37,8 @@ least_one P t (Some w) None l k = absurd (k w l.0 l.1)
 least_one P t (Some w) (Some v) l k =
     ⊎_elim (ap Some)
     (⊎_elim (λ (h : w < v). absurd (k.2 w l.0 h l.1)) (λ (h : v < w). absurd (l.2 v k.0 h k.1))) (cases_order w v)
+
+-- where only u passes, the least from t on is u, if u is not below t
+pub least_only : (P : ℕ → Bool) (t u : ℕ) (b : Bool) → b ≡ leb t u → P u ≡ true → ((v : ℕ) → P v ≡ true → v ≡ u) → Least P t (then_some b u)
+least_only P t u true e there only = (grind (arith, nat_tests), there, λ v h less p. let same = only v p in omega arith)
+least_only P t u false e there only = λ v h p. let same = only v p in grind (arith, nat_tests)

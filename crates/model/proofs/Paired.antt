@@ -68,13 +68,6 @@ module _ (t i width from : ℕ) (up : from ≡ t - i * width) where
             l.2 (v % width) (omega arith) (omega arith) x.1,
       )
 
--- a state of the first part leaves room for one whole row of the second's
-pub row_fits : (s na nb : ℕ) → s < na * nb → na * nb ≤ 4096 → 0 < nb → s / nb * nb + nb ≤ 4096
-row_fits s na nb lt few pos =
-    let d = div_below s nb na pos lt in
-    let q = mul-le-mul_right {m = s / nb + 1} {n = na} nb (omega arith) in
-    let e = add-mul (s / nb) 1 nb in let o = one-mul nb in omega arith
-
 below : (t nb na : ℕ) → 0 < nb → t / nb < na → t < na * nb
 below t nb na pos lt =
     let e = div-add-mod' t nb in

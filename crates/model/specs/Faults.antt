@@ -1,5 +1,5 @@
 -- What each fault tells: its number, and the value that it names, else 0.
-use Rattle.std.specs.Prelude.{ℕ, Ok, Err, Result}
+use Rattle.std.specs.Prelude.{ℕ, List, ◌++◌, Ok, Err, codes, decimal, Result}
 use Rattle.model.specs.declared.fault.ModelFault.{ModelFault}
 use Rattle.model.specs.declared.fault.ModelFault.TheVariants.{NoStates, DeadEnd}
 
@@ -19,3 +19,8 @@ told (DeadEnd s) = refusal 2 s
 abbrev pub answer : {X : Type 0} → Result X ModelFault → Result X Refusal
 answer (Ok x) = Ok x
 answer (Err e) = Err (told e)
+
+-- a fault in words
+abbrev pub worded : ModelFault → List ℕ
+worded NoStates = codes "it has no states"
+worded (DeadEnd s) = codes "state " ++ (decimal s ++ codes " has no step")

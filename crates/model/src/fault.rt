@@ -1,6 +1,8 @@
 //! Why a model is refused.
-ghost use Rattle.std.specs.Prelude.{◌≡◌};
-ghost use Rattle.model.specs.Faults.{told};
+ghost use Rattle.std.specs.Prelude.{◌≡◌, Some};
+ghost use Rattle.model.specs.Faults.{told, worded};
+
+use std::fmt;
 
 /// Why a model cannot be walked.
 #[derive(Clone, Copy, PartialEq, Eq, Debug)]
@@ -12,6 +14,7 @@ pub enum ModelFault {
 }
 
 impl ModelFault {
+    // `number` and `value` tell two things of a fault: each is one match, and both in one would be no clearer.
     /// The fault's number.
     pub fn number(self) -> u8
         ensures { result ≡ (told self).number }
@@ -22,6 +25,7 @@ impl ModelFault {
         }
     }
 
+    // 0 and no `None`: a listing prints it so.
     /// The state that the fault names, else 0.
     pub fn value(self) -> u16
         ensures { result ≡ (told self).value }
@@ -29,6 +33,17 @@ impl ModelFault {
         match self {
             ModelFault::NoStates => 0,
             ModelFault::DeadEnd(s) => s,
+        }
+    }
+}
+
+impl fmt::Display for ModelFault {
+    ghost output = { λ e. Some (worded e) };
+
+    fn fmt<W: fmt::Write>(&self, f: &mut fmt::Formatter<W>) -> fmt::Result {
+        match self {
+            ModelFault::NoStates => f.write_str("it has no states"),
+            ModelFault::DeadEnd(s) => write!(f, "state {s} has no step"),
         }
     }
 }

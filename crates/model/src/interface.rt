@@ -17,6 +17,7 @@ impl Size {
         ensures props { result.props ≡ kept states props props }
     {
         if states <= 4096 && props <= 64 {
+            // By `as`: the numbers fit, and `try_from` would have an error that cannot come.
             Size {
                 states: states as u16,
                 props: props as u8,

@@ -24,11 +24,11 @@ fn joined(a: Size, b: Size) -> Size
     ensures states { result.states ≡ kept (a.states * b.states) (labels (a.states * b.states) (a.props + b.props)) (a.states * b.states) }
     ensures props { result.props ≡ kept (a.states * b.states) (labels (a.states * b.states) (a.props + b.props)) (labels (a.states * b.states) (a.props + b.props)) }
 {
-    let states = a.states as u32 * b.states as u32;
+    let states = u32::from(a.states) * u32::from(b.states);
     let props = if states == 0 {
         0
     } else {
-        a.props as u16 + b.props as u16
+        u16::from(a.props) + u16::from(b.props)
     };
     Size::within(states, props)
 }

@@ -62,13 +62,14 @@ pub struct Pool {
     pub guard: u8,
 }
 
+// A digit is a number and no enum: a state is made of digits by arithmetic.
 /// The digit of buffer `i` in state `s`.
 #[tactic(auto, using(crate::proofs::Pooled::weight_few))]
 fn digit_of(s: u16, i: u8) -> u16
     requires { i < 6 }
     ensures { result ≡ digit i s }
 {
-    s / 4u16.pow(i as u32) % 4
+    s / 4u16.pow(u32::from(i)) % 4
 }
 
 /// State `s` with `e` for the digit of buffer `i`.
@@ -77,7 +78,7 @@ fn with_digit(s: u16, i: u8, e: u16) -> u16
     requires { (i < 6) × (s < 4096) × (e < 4) }
     ensures { result + digit i s * 4 ^ i ≡ s + e * 4 ^ i }
 {
-    let weight = 4u16.pow(i as u32);
+    let weight = 4u16.pow(u32::from(i));
     s - digit_of(s, i) * weight + e * weight
 }
 
@@ -99,8 +100,7 @@ impl Pool {
             return None;
         }
         let u = with_digit(s, i, e);
-        // `then_some` was tried: the proof of the two cases did not close.
-        if u < t { None } else { Some(u) }
+        (u >= t).then_some(u)
     }
 
     /// The least state not below `t` to which a thread gets from `s` with buffer `i`.
@@ -120,7 +120,7 @@ impl FiniteModel for Pool {
     fn size(&self) -> Size {
         if (1..=6).contains(&self.buffers) && self.guard <= 1 {
             Size {
-                states: 4u16.pow(self.buffers as u32),
+                states: 4u16.pow(u32::from(self.buffers)),
                 props: 2,
             }
         } else {

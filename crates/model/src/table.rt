@@ -1,5 +1,4 @@
 //! A model given by two lists.
-ghost use Rattle.std.specs.Prelude.{◌≡◌};
 ghost use Rattle.model.specs.Lawfulness.{listed_lawful};
 ghost use Rattle.model.specs.Tables.{listed};
 
@@ -38,7 +37,7 @@ impl FiniteModel for Table<'_> {
     ghost lawful = { λ x. listed_lawful x.states x.props x.steps.now x.holdings.now };
 
     fn size(&self) -> Size {
-        Size::within(self.states as u32, self.props as u16)
+        Size::within(u32::from(self.states), u16::from(self.props))
     }
 
     fn least_step(&self, s: u16, t: u16) -> Option<u16> {

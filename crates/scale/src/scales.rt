@@ -48,15 +48,17 @@ impl Scale for Boolean {
     ghost lawful = { λ _. boolean_lawful };
 
     fn levels(&self) -> u8 {
+        // By `as`: the length fits, and `try_from` would have an error that cannot come.
         BOOLEAN.len() as u8
     }
 
+    // `FiveValued` has the same with its own list: the two scales are two types, and `reading_at` is what they share.
     fn reading(&self, level: u8) -> Option<Reading> {
         reading_at(&BOOLEAN, level)
     }
 }
 
-// Two unit types, not one with a list: a list from a caller need not be a lawful scale. They share `reading_at`.
+// Two unit types, not one with a list: a list from a caller need not be a lawful scale.
 
 /// Four levels: *sometime*, *infinitely often*, *eventually always*, *always*.
 #[derive(Clone, Copy, PartialEq, Eq, Debug)]
@@ -68,6 +70,7 @@ impl Scale for FiveValued {
     ghost lawful = { λ _. five_lawful };
 
     fn levels(&self) -> u8 {
+        // By `as`, as above.
         FIVE_VALUED.len() as u8
     }
 

@@ -68,9 +68,7 @@ ok_is (Ok u) e = refl
 ok_is (Err x) e = absurd (both_ways false refl e)
 
 lets_pass : (b : Bool) (e : Refusal) → ok (refuse_if b e) ≡ true → b ≡ false
-unfolding ok
-lets_pass false e h = refl
-lets_pass true e h = absurd (both_ways false refl h)
+lets_pass b e h = checked b e tt (ok_is (refuse_if b e) h)
 
 entered_ok : (r : Result Unit Refusal) → Ok tt ≡ r → ok r ≡ true
 unfolding ok

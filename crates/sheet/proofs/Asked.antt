@@ -1,11 +1,9 @@
 -- What a row's number says of its operands and of the walks.
-use Rattle.std.proofs.Common.{◌≡◌, ℕ, ◌-◌, ◌≤◌, Bool, true, false, cond, ltb, leb, Some, sym, refl, ap, ◌∙◌, arith}
-use Rattle.std.proofs.lemmas.Bool.{lt-leb}
+use Rattle.std.proofs.Common.{◌≡◌, ℕ, ◌-◌, ◌≤◌, Bool, true, false, cond, ltb, Some, sym, refl, ap, ◌∙◌, arith}
 use Rattle.std.proofs.lemmas.Bool.Decides.{nat_tests}
 use Rattle.engine.specs.Marks.{ours}
 use Rattle.engine.specs.Satisfied.{quantifier}
 use Rattle.logic.specs.FixedPoints.{choosing}
-use Rattle.logic.specs.Formulas.{unused}
 use Rattle.logic.specs.Kinds.{Kind, reach}
 use Rattle.logic.specs.Kinds.Kind.{path}
 use Rattle.logic.specs.Satisfaction.{sat, sat_path, highest, row_degree}
@@ -15,13 +13,6 @@ use Rattle.sheet.specs.Kinds.{kind_of, operator_of}
 use Rattle.model.specs.Meaning.{Meaning}
 use Rattle.scale.specs.Grades.{Grades}
 use Rattle.scale.specs.declared.reading.Reading.{Reading}
-
--- an operand that is there, and one that is not
-pub there : (t : Bool) (f : ℕ → ℕ) (l s : ℕ) (b : Bool) → t ≡ true → b ≡ leb l (f s) → b ≡ reach (cond t f unused) l s
-there t f l s b e h = h ∙ ap (λ t. reach (cond t f unused) l s) (sym e)
-
-pub missing : (t : Bool) (f : ℕ → ℕ) (l s : ℕ) (b : Bool) → t ≡ false → b ≡ false → 1 ≤ l → b ≡ reach (cond t f unused) l s
-missing t f l s b e h some = h ∙ sym (lt-leb l 0 (omega arith)) ∙ ap (λ t. reach (cond t f unused) l s) (sym e)
 
 chosen : (b : Bool) → ours b ≡ choosing (quantifier b)
 chosen true = refl

@@ -40,22 +40,22 @@ pub record Kept (m : Meaning) (g : Grades) (s : State) (fs : List Formula) : Typ
   pub rows : (r : ℕ) → r < length fs → Stands fs r (record_of s r)
   pub bytes : (r k : ℕ) → r < length fs → k < s.states → byte_at s r k ≡ degree m g (formula_at fs r) k
 
+pub given_is : {m : Meaning} {g : Grades} {s : State} {fs : List Formula} (K : Kept m g s fs) (r k : ℕ) → r < length fs → k < m.states → given s r k ≡ degree m g (formula_at fs r) k
+given_is {s = s} K r k h l =
+    let here : k < s.states = omega (arith, K.states) in
+    cond-true (ltb k s.states) (byte_at s r k) 0 (lt-ltb k s.states here) ∙ K.bytes r k h here
+
 module _ (m : Meaning) (law : Lawful m) (g : Grades) (orderly : Orderly g) where
   module _ (s : State) (fs : List Formula) (K : Kept m g s fs) (x : Row) (n : ℕ) (A : Accepted m g s x n) where
     abbrev N : ℕ
     N = s.states
 
-    given_is : (r k : ℕ) → r < length fs → k < m.states → given s r k ≡ degree m g (formula_at fs r) k
-    given_is r k h l =
-        let here : k < s.states = omega (arith, K.states) in
-        cond-true (ltb k s.states) (byte_at s r k) 0 (lt-ltb k s.states here) ∙ K.bytes r k h here
-
     -- the degrees that are worked out from true bytes are those of the row's formula
     true_degrees : (k : ℕ) → k < m.states → degrees_of m g s x k ≡ degree m g (formula_of fs x) k
     true_degrees k here =
         rests m law A.total g orderly x.a x.kind A.some_kind A.last_kind (first_of s x) (second_of s x) (degree m g (formula_at fs x.a)) (degree m g (formula_at fs x.b))
-        (λ ne j l. ap (λ (f : ℕ → ℕ). f j) (cond-false (eqb x.kind 1) _ (given s x.a) (ne_eqb x.kind 1 ne)) ∙ given_is x.a j (omega (arith, A.first ne, K.count)) l)
-        (λ two j l. ap (λ (f : ℕ → ℕ). f j) (cond-true (eqb (operands_of x.kind) 2) (given s x.b) _ (eq-eqb (operands_of x.kind) 2 two)) ∙ given_is x.b j (omega (arith, A.second two, K.count)) l)
+        (λ ne j l. ap (λ (f : ℕ → ℕ). f j) (cond-false (eqb x.kind 1) _ (given s x.a) (ne_eqb x.kind 1 ne)) ∙ given_is K x.a j (omega (arith, A.first ne, K.count)) l)
+        (λ two j l. ap (λ (f : ℕ → ℕ). f j) (cond-true (eqb (operands_of x.kind) 2) (given s x.b) _ (eq-eqb (operands_of x.kind) 2 two)) ∙ given_is K x.b j (omega (arith, A.second two, K.count)) l)
         k here
         ∙ sym (degree_by m g (kind_of x.kind x.a) (formula_at fs x.a) (formula_at fs x.b) k)
 

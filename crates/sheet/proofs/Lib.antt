@@ -1,5 +1,5 @@
 pub mod Places
-pub mod Fields
+pub mod Table
 pub mod Numbers
 pub mod Over
 pub mod Sound

@@ -7,16 +7,9 @@ use Rattle.engine.specs.declared.operator.Operator.TheVariants.{Next, Finally, G
 use Rattle.logic.specs.Kinds.Kind.{or, path}
 use Rattle.logic.specs.Kinds.{Kind as OfLogic}
 use Rattle.logic.specs.Walks.{Quantifier, Operator as Asked}
-use Rattle.sheet.specs.Kinds.{kind_of, operator_of, place_of, number_of, meant, path_of}
+use Rattle.sheet.specs.Kinds.{kind_of, place_of, number_of, meant, path_of}
 use Rattle.sheet.specs.declared.kinds.Kind.{Kind}
 use Rattle.sheet.specs.declared.kinds.Kind.TheVariants.{Prop, Or, And, Not, Imp, E, A}
-
-pub operator_of-place_of : (o : Operator) → operator_of (place_of o) ≡ asked o
-operator_of-place_of Next = refl
-operator_of-place_of Finally = refl
-operator_of-place_of Globally = refl
-operator_of-place_of Until = refl
-operator_of-place_of Weak = refl
 
 pub kind_of-number_of : (k : Kind) (a : ℕ) → kind_of (number_of k) a ≡ meant k a
 kind_of-number_of Prop a = refl

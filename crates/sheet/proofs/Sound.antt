@@ -1,14 +1,10 @@
 -- Whether all bytes of a row are degrees, from what `all` answers.
-use Rattle.std.proofs.Common.{◌≡◌, ℕ, ◌+◌, ◌<◌, ◌≤◌, Bool, true, false, leb, List, length, get_or, MatchBool, refl, sym, subst, arith}
+use Rattle.std.proofs.Common.{◌≡◌, ℕ, ◌+◌, ◌<◌, ◌≤◌, Bool, true, false, leb, List, length, get_or, MatchBool, sym, subst, arith}
 use Rattle.std.specs.List.{between, AllWithin, HoldsAt}
-use Rattle.std.proofs.lemmas.Bool.{both_ways, le-leb, lt-leb}
+use Rattle.std.proofs.lemmas.Bool.{both_ways, false_from_ne_true, le-leb, lt-leb}
 use Rattle.std.proofs.lemmas.List.Edits.{length-between, get_or-between}
 use Rattle.model.specs.Below.{every}
 use Rattle.model.proofs.Below.{every_decides}
-
-other : (b : Bool) → (b ≡ true → ⊥) → false ≡ b
-other false h = refl
-other true h = absurd (h refl)
 
 pub all_pass : (passes : ℕ → Bool) (n : ℕ) → ((k : ℕ) → k < n → passes k ≡ true) → true ≡ every n passes
 all_pass passes n h = sym ((every_decides passes n).1 h)
@@ -22,4 +18,4 @@ judged bs i n top true h m =
 judged bs i n top false h (k, l, w) =
     let inside : k < n = omega (arith, l, length-between bs i (i + n) h) in
     let above : top < get_or bs (i + k) 0 = subst (λ x. top < x) (get_or-between bs i (i + n) k 0 (omega arith)) (w 0) in
-    other _ (λ t. both_ways _ (lt-leb _ _ above) ((every_decides _ n).0 t k inside))
+    sym (false_from_ne_true _ (λ t. both_ways _ (lt-leb _ _ above) ((every_decides _ n).0 t k inside)))

@@ -1,6 +1,6 @@
 -- The law of walk, from the exact answer of the call.
 use Rattle.std.proofs.Common.{◌≡◌, ℕ, ◌-◌, ◌*◌, ◌<◌, ◌≤◌, Bool, true, false, cond, not, ◌&&◌, ◌||◌, eqb, ltb, leb, List, length, Ok, Err, Result, sym, refl, ap, ◌∙◌, subst, arith}
-use Rattle.std.proofs.lemmas.Bool.{or_from, lt-leb, le-ltb, eq-eqb, ne_eqb, eqb-true, cond-true, cond-false, lt-ltb, le-leb, not_from_true, and_right, eqb-false, both_ways}
+use Rattle.std.proofs.lemmas.Bool.{or_from, lt-leb, le-ltb, eq-eqb, ne_eqb, eqb-true, cond-true, cond-false, le-leb, not_from_true, and_right, eqb-false, both_ways}
 use Rattle.engine.specs.Lassos.{endless}
 use Rattle.engine.specs.Satisfied.{quantifier}
 use Rattle.logic.specs.Formulas.{Formula}
@@ -11,16 +11,16 @@ use Rattle.logic.specs.Walks.{Walk, Operator}
 use Rattle.logic.proofs.Outcomes.{inside}
 use Rattle.model.specs.Faults.{Refusal}
 use Rattle.model.specs.Meaning.{Meaning, Lawful}
-use Rattle.model.specs.Walkable.{walkability}
 use Rattle.scale.specs.Grades.{Grades, Lawful as Orderly}
-use Rattle.sheet.specs.Calls.{refuse_if, and_then, byte_at, given, first_of, second_of, sound, fitting, readable}
+use Rattle.sheet.specs.Calls.{refuse_if, byte_at, given, first_of, second_of, sound, fitting}
 use Rattle.sheet.specs.Histories.{formula_at, formula_by, AsksWalks, Does, SomeWalkDoes, TrueWalk, WalkIsTrue}
 use Rattle.sheet.specs.Kinds.{kind_of, operands_of, operator_of}
 use Rattle.sheet.specs.States.{State}
-use Rattle.sheet.specs.Walking.{record_of, present, roomy_now, asking, recorded, operands_now, on_scale, room_to_walk, leveled, walking, Wanted, WantedBy, Granted, Sought, WalksAfter, Walks}
+use Rattle.sheet.specs.Walking.{record_of, asking, operands_now, leveled, walking, Wanted, WantedBy, Granted, Sought, WalksAfter, Walks}
 use Rattle.sheet.specs.declared.row.Row.{Row}
 use Rattle.sheet.proofs.Asked.{path_kind}
-use Rattle.sheet.proofs.Kept.{Kept, kept}
+use Rattle.sheet.proofs.Exits.{goes}
+use Rattle.sheet.proofs.Kept.{Kept, given_is, kept}
 use Rattle.sheet.proofs.Laws.{fits, byte_low}
 use Rattle.sheet.proofs.Resting.{by_kinds}
 use Rattle.sheet.proofs.Showing.{OnPath, left_only, asks_kind, to_does, from-does}
@@ -40,9 +40,6 @@ two_operands =
 
 done : (b : Bool) (e : Refusal) → b ≡ false → Ok tt ≡ refuse_if b e
 done b e h = sym (ap (λ (b : Bool). refuse_if b e) h)
-
-both : {X : Type 0} (a : Result Unit Refusal) (r : Result X Refusal) (x : X) → Ok tt ≡ a → Ok x ≡ r → Ok x ≡ and_then a r
-both a r x h k = k ∙ ap (λ (a : Result Unit Refusal). and_then a r) h
 
 module _ (m : Meaning) (law : Lawful m) (g : Grades) (orderly : Orderly g) (s : State) (fs : List Formula) (K : Kept m g s fs) (r k l n : ℕ) (here : r < length fs)
     (asks : AsksWalks (formula_at fs r)) (state : k < m.states) (some : 1 ≤ l) (most : l ≤ g.levels) where
@@ -73,8 +70,8 @@ module _ (m : Meaning) (law : Lawful m) (g : Grades) (orderly : Orderly g) (s : 
 
   asking_is : Ok tt ≡ asking s r k
   asking_is =
-      both (present s r k) _ tt (done _ _ (or_from (leb s.count r) (leb s.states k) (lt-leb _ _ (omega (arith, K.count))) (lt-leb _ _ (omega (arith, K.states)))))
-      (both (roomy_now s) _ tt (done _ _ (or_from (ltb (length s.records) s.count) (ltb (length s.degrees) (s.count * s.states)) (le-ltb _ _ (omega (arith, K.count, K.records))) (le-ltb _ _ (fits m g s fs K))))
+      goes (done _ _ (or_from (leb s.count r) (leb s.states k) (lt-leb _ _ (omega (arith, K.count))) (lt-leb _ _ (omega (arith, K.states)))))
+      (goes (done _ _ (or_from (ltb (length s.records) s.count) (ltb (length s.degrees) (s.count * s.states)) (le-ltb _ _ (omega (arith, K.count, K.records))) (le-ltb _ _ (fits m g s fs K))))
       (done _ _ (or_from (ltb x.kind 6) (ltb 15 x.kind) (le-ltb _ _ six) (le-ltb _ _ (K.rows r here).last_kind))))
 
   second_is : (t : Bool) → eqb (operands_of x.kind) 2 ≡ t → cond t (leb r x.b) (not (eqb x.b 0)) ≡ false
@@ -87,33 +84,30 @@ module _ (m : Meaning) (law : Lawful m) (g : Grades) (orderly : Orderly g) (s : 
 
   operands_is : Ok tt ≡ operands_now s r x
   operands_is =
-      both (recorded r x) (readable s x) tt (done _ _ (or_from (leb r x.a) _ (lt-leb r x.a first) (second_is (eqb (operands_of x.kind) 2) refl)))
+      goes (done _ _ (or_from (leb r x.a) _ (lt-leb r x.a first) (second_is (eqb (operands_of x.kind) 2) refl)))
       (done _ _ (or_from (not (eqb x.kind 1) && not (sound s x.a)) (eqb (operands_of x.kind) 2 && not (sound s x.b))
       (and_right (not (eqb x.kind 1)) (not (sound s x.a)) (not_from_true (sound s x.a) (sound-row x.a (omega (arith, first))))) (bytes_is (eqb (operands_of x.kind) 2) refl)))
 
   leveled_is : 2 * m.states ≤ n → Ok tt ≡ leveled s l n
   leveled_is room =
-      both (on_scale s l) (room_to_walk s n) tt (done _ _ (or_from (ltb l 1) (ltb s.levels l) (le-ltb _ _ some) (le-ltb _ _ (omega (arith, K.levels))))) (done _ _ (le-ltb _ _ (omega (arith, K.states))))
+      goes (done _ _ (or_from (ltb l 1) (ltb s.levels l) (le-ltb _ _ some) (le-ltb _ _ (omega (arith, K.levels))))) (done _ _ (le-ltb _ _ (omega (arith, K.states))))
 
   pub lawful_request : 2 * m.states ≤ n → Ok tt ≡ walking m g s r k l n
   lawful_request room =
-      both (fitting s m g) _ tt fitting_is (both (walkability m) _ tt K.walkable (both (asking s r k) _ tt asking_is (both (operands_now s r x) _ tt operands_is (leveled_is room))))
+      goes fitting_is (goes K.walkable (goes asking_is (goes operands_is (leveled_is room))))
 
   -- the bytes are the truth values along every walk
-  given_is : (i j : ℕ) → i < length fs → j < m.states → given s i j ≡ degree m g (formula_at fs i) j
-  given_is i j p q = let w : j < s.states = omega (arith, K.states) in cond-true (ltb j s.states) (byte_at s i j) 0 (lt-ltb j s.states w) ∙ K.bytes i j p w
-
   module _ (π : ℕ → ℕ) (w : Walk m k π) where
     within : (i : ℕ) → π i < m.states
     within = inside m law k π w
 
     left : OnPath (reach (first_of s x) l) (reach (degree m g f) l) π
-    left j = ap (leb l) (ap (λ (d : ℕ → ℕ). d (π j)) (cond-false (eqb x.kind 1) _ (given s x.a) (ne_eqb x.kind 1 (λ e. omega (arith, six)))) ∙ given_is x.a (π j) (omega (arith, first)) (within j))
+    left j = ap (leb l) (ap (λ (d : ℕ → ℕ). d (π j)) (cond-false (eqb x.kind 1) _ (given s x.a) (ne_eqb x.kind 1 (λ e. omega (arith, six)))) ∙ given_is K x.a (π j) (omega (arith, first)) (within j))
 
     right : left_only (op_of x.kind) ≡ false → OnPath (reach (second_of s x) l) (reach (degree m g h) l) π
     right e j =
         let two = two_operands x.kind (K.rows r here).some_kind (K.rows r here).last_kind six e in
-        ap (leb l) (ap (λ (d : ℕ → ℕ). d (π j)) (cond-true (eqb (operands_of x.kind) 2) (given s x.b) _ (eq-eqb (operands_of x.kind) 2 two)) ∙ given_is x.b (π j) (omega (arith, (K.rows r here).second two)) (within j))
+        ap (leb l) (ap (λ (d : ℕ → ℕ). d (π j)) (cond-true (eqb (operands_of x.kind) 2) (given s x.b) _ (eq-eqb (operands_of x.kind) 2 two)) ∙ given_is K x.b (π j) (omega (arith, (K.rows r here).second two)) (within j))
 
     kind_is : kind_of x.kind x.a ≡ path (quantifier (ltb x.kind 11)) (op_of x.kind)
     kind_is = path_kind x.kind x.a six

@@ -7,6 +7,7 @@ use Rattle.model.specs.Walkable.{Total}
 use Rattle.scale.specs.Grades.{Grades}
 use Rattle.sheet.specs.Calls.{byte_at, first_of, second_of, reaches}
 use Rattle.sheet.specs.Kinds.{operands_of}
+use Rattle.sheet.specs.Over.{Fits}
 use Rattle.sheet.specs.States.{State, seen}
 use Rattle.sheet.specs.Walking.{record_of}
 use Rattle.sheet.specs.declared.row.Row.{Row}
@@ -23,12 +24,11 @@ pub record Earlier (x : Sheet) (r : Row) : Type 0 where
 pub record Room (x : Sheet) (k l : ℕ) : Type 0 where
   pub few : x.rows < 128
   pub records : x.rows < k
-  pub bytes : (x.rows + 1) * x.states ≤ l
+  pub bytes : (x.rows + 1) * x.size.states ≤ l
 
 -- a row can be entered
 pub record Ready (m : Meaning) (g : Grades) (x : Sheet) (rs : List Row) (bs : List ℕ) (r : Row) : Type 0 where
-  pub same_states : m.states ≡ x.states
-  pub same_levels : g.levels ≡ x.levels
+  pub fits : Fits m g x
   pub total : Total m
   pub room : Room x (length rs) (length bs)
   pub earlier : Earlier x r
@@ -42,15 +42,14 @@ RowReaches m g s x after r =
 
 -- a walk can be looked for: for the row r, the state k and the level l, with a walk buffer of n numbers
 pub record ReadyToWalk (m : Meaning) (g : Grades) (x : Sheet) (rs : List Row) (bs : List ℕ) (r k l n : ℕ) : Type 0 where
-  pub same_states : m.states ≡ x.states
-  pub same_levels : g.levels ≡ x.levels
+  pub fits : Fits m g x
   pub total : Total m
   pub row : r < x.rows
-  pub state : k < x.states
+  pub state : k < x.size.states
   pub records : x.rows ≤ length rs
-  pub bytes : x.rows * x.states ≤ length bs
+  pub bytes : x.rows * x.size.states ≤ length bs
   pub path : 6 ≤ (record_of (seen x rs bs) r).kind
   pub earlier : Earlier x (record_of (seen x rs bs) r)
   pub some_level : 1 ≤ l
   pub last_level : l ≤ x.levels
-  pub room : 2 * x.states ≤ n
+  pub room : 2 * x.size.states ≤ n

@@ -1,6 +1,9 @@
 -- A sheet with its degree bytes, and a row over them, as the code holds them.
 use Rattle.std.specs.Prelude.{◌≡◌, ℕ, Bool, cond, not, ◌&&◌, ◌||◌, List, Ok, Err, Result, ◌==◌, nat_le}
+use Rattle.std.specs.Option.{unwrap_or}
 use Rattle.model.specs.Faults.{Refusal}
+use Rattle.model.specs.Meaning.{Meaning}
+use Rattle.scale.specs.Grades.{Grades}
 use Rattle.sheet.specs.Faults.{told}
 use Rattle.sheet.specs.Kinds.{operands_of, number_of}
 use Rattle.sheet.specs.States.{State, seen}
@@ -14,9 +17,14 @@ use Rattle.sheet.specs.declared.sheet.lent.Known.{Known}
 abbrev pub state_of : Lent → List Row → State
 state_of x rs = seen x.sheet.now rs x.bytes.now
 
--- the row as its buffer holds it
+-- the row as its buffer holds it; a second operand that it does not have is 0
 abbrev pub row_of : Known → Row
-row_of x = record { kind = number_of x.kind; a = x.a; b = x.b }
+row_of x = record { kind = number_of x.kind; a = x.a; b = unwrap_or x.b 0 }
+
+-- the model and the scale are of the sheet's size
+pub record Fits (m : Meaning) (g : Grades) (x : Sheet) : Type 0 where
+  pub states : m.states ≡ x.size.states
+  pub levels : g.levels ≡ x.levels
 
 -- x is the sheet s with the bytes bs
 pub record Lends (x : Lent) (s : Sheet) (bs : List ℕ) : Type 0 where

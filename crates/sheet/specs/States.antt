@@ -15,7 +15,7 @@ pub record State : Type 0 where
   pub degrees : List ℕ  -- the buffer of degree bytes: row r, state s at r × N + s
 
 abbrev pub seen : Sheet → List Row → List ℕ → State
-seen x rs bs = record { states = x.states; props = x.props; levels = x.levels; count = x.rows; records = rs; degrees = bs }
+seen x rs bs = record { states = x.size.states; props = x.size.props; levels = x.levels; count = x.rows; records = rs; degrees = bs }
 
 -- the same of what `open` answers
 abbrev pub seen_in : Result Sheet SheetFault → List Row → List ℕ → Result State Refusal

@@ -52,6 +52,7 @@ impl From<UnknownKind> for SheetFault {
 }
 
 impl SheetFault {
+    // As in ModelFault: number and value are one match each, and one match that gave both would be no clearer.
     /// The fault's number.
     pub fn number(self) -> u8
         ensures { result ≡ (told self).number }
@@ -72,6 +73,7 @@ impl SheetFault {
         }
     }
 
+    // 0 and no `None`: a listing prints it so.
     /// The state that the fault names, else 0.
     pub fn value(self) -> u16
         ensures { result ≡ (told self).value }

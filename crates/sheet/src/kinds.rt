@@ -1,6 +1,5 @@
 //! The kinds of row, and the constant table of them.
-ghost use Rattle.std.specs.Prelude.{◌≡◌, ◌-◌, Some, None, ◌==◌};
-ghost use Rattle.std.specs.Option.{option_map};
+ghost use Rattle.std.specs.Prelude.{◌≡◌, ◌==◌};
 ghost use Rattle.sheet.specs.Kinds.{operands_of, name_of, number_of, path_of, Numbered, Tells};
 
 use engine::operator::Operator;
@@ -27,6 +26,7 @@ pub struct UnknownKind(pub u8);
 #[derive(Clone, Copy)]
 pub struct KindInfo {
     pub kind: Kind,
+    // The number that a row record holds; `try_from` looks for it.
     pub number: u8,
     pub name: &'static str,
     pub operands: u8,
@@ -132,34 +132,20 @@ impl TryFrom<u8> for Kind {
     ghost try_from_gives = { Numbered };
 
     fn try_from(number: u8) -> Result<Self, UnknownKind> {
-        match number {
-            1..=15 => Ok(KINDS[number as usize - 1].kind),
-            _ => Err(UnknownKind(number)),
-        }
+        KINDS
+            .iter()
+            .find(|info| info.number == number)
+            .map(|info| info.kind)
+            .ok_or(UnknownKind(number))
     }
 }
 
 impl Kind {
-    /// The kind's index in the table.
-    fn place(self) -> usize
-        ensures { result ≡ number_of self - 1 }
-    {
-        match self {
-            Kind::Prop => 0,
-            Kind::Or => 1,
-            Kind::And => 2,
-            Kind::Not => 3,
-            Kind::Imp => 4,
-            Kind::E(operator) => 5 + operator as usize,
-            Kind::A(operator) => 10 + operator as usize,
-        }
-    }
-
     /// The kind's entry in the table.
     fn info(self) -> KindInfo
         ensures { Tells self result }
     {
-        KINDS[self.place()]
+        *KINDS.iter().find(|info| info.kind == self).unwrap()
     }
 
     /// The kind's number.
@@ -190,6 +176,7 @@ impl Kind {
         self.operands() == 2
     }
 
+    // The quantifier is a `bool`, as the engine takes it.
     /// For a kind that asks for walks, whether some walk serves, and what is asked of it.
     pub(crate) fn path(self) -> Option<(bool, Operator)>
         ensures { result ≡ path_of self }

@@ -1,4 +1,3 @@
 pub mod Numbers
 pub mod Opened
 pub mod Turns
-pub mod Whole

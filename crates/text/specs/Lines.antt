@@ -17,10 +17,6 @@ pub record Said : Type 0 where
   pub rows : List Row
   pub asks : List Ask
 
--- how many lines that was
-abbrev pub count : Said → ℕ
-count h = length h.steps + length h.holdings + length h.asks
-
 -- how many more there can be: a table has at most 1,024 steps, 1,024 holdings and 8 asks, one to a line
 abbrev pub spare : Said → ℕ
 spare h = (1024 - length h.steps) + (1024 - length h.holdings) + (8 - length h.asks)

@@ -1,27 +1,10 @@
 //! Reading a whole text.
 ghost use Rattle.std.specs.Prelude.{◌≡◌};
-ghost use Rattle.text.specs.Scripts.{script_at, script_read, answer_of, said_in};
-ghost use Rattle.text.specs.Lines.{nothing};
+ghost use Rattle.text.specs.Scripts.{script_at, script_read, answer_of};
 
 use crate::fault::ReadFault;
 use crate::reader::Reader;
-use crate::script::{Body, Script};
-use arrayvec::ArrayVec;
-
-impl Body {
-    // Not a derived `Default`: the contract says what the lists are.
-    /// What no line has said yet.
-    fn blank() -> Self
-        ensures { said_in result ≡ nothing }
-    {
-        Body {
-            steps: ArrayVec::new(),
-            holdings: ArrayVec::new(),
-            rows: ArrayVec::new(),
-            asks: ArrayVec::new(),
-        }
-    }
-}
+use crate::script::Script;
 
 /// Reads a text.
 pub fn read(text: &[u8]) -> Result<Script, ReadFault>
@@ -30,8 +13,7 @@ pub fn read(text: &[u8]) -> Result<Script, ReadFault>
     let mut reader = Reader { rest: text };
     let levels = reader.scale()?;
     let source = reader.source()?;
-    let mut body = Body::blank();
-    reader.lines(source, &mut body)?;
+    let body = reader.lines(source)?;
     Ok(Script {
         levels,
         source,

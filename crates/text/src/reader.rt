@@ -1,6 +1,6 @@
 //! The reader of texts, part by part.
-ghost use Rattle.std.specs.Prelude.{◌≡◌, ℕ, ◌+◌, ◌<◌, ◌≤◌, [], ◌∷◌, length, drop, IfOk};
-ghost use Rattle.text.specs.Reads.{beside, need, head_of, word_at, gap_at, numeral_at, number_at, within};
+ghost use Rattle.std.specs.Prelude.{◌≡◌, ◌<◌, length, drop, IfOk};
+ghost use Rattle.text.specs.Reads.{beside, head_of, word_at, gap_at, numeral_at, number_at, within};
 ghost use Rattle.text.specs.declared.fault.ReadFault.TheVariants.{Form as FormFault};
 
 use crate::fault::ReadFault;
@@ -9,13 +9,14 @@ use std::ops::Range;
 mod formulas;
 mod lines;
 
+// Each part of a form is taken by `let .. else`, or the form fault is given: users read the reader by this form.
 /// The bytes of a text that are still to be read.
 #[derive(Drop)]
 pub(crate) struct Reader<'a> {
     pub(crate) rest: &'a [u8],
 }
 
-impl<'a> Reader<'a> {
+impl Reader<'_> {
     /// The byte at which the reader stands.
     fn peek(&self) -> Option<u8>
         ensures { result ≡ head_of self.now.rest.now }
@@ -43,9 +44,8 @@ impl<'a> Reader<'a> {
         ensures { (result, self.new.rest.now) ≡ word_at letters.now self.old.rest.now }
     {
         // Not `strip_prefix`: a form fault stands at the first byte that does not fit.
-        for c in letters {
-            let b = self.peek()?;
-            if b != *c {
+        for &c in letters {
+            if self.peek()? != c {
                 return None;
             }
             self.skip();
@@ -75,13 +75,13 @@ impl<'a> Reader<'a> {
             return None;
         };
         self.skip();
-        let mut n = (first - b'0') as u16;
-        for _i in 0..3u8 {
+        let mut n = u16::from(first - b'0');
+        for _ in 0..3u8 {
             let Some(d @ b'0'..=b'9') = self.peek() else {
                 return Some(n);
             };
             self.skip();
-            n = n * 10 + (d - b'0') as u16;
+            n = n * 10 + u16::from(d - b'0');
         }
         match self.peek() {
             Some(b'0'..=b'9') => None,

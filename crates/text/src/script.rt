@@ -9,8 +9,10 @@ use sheet::row::Row;
 #[derive(Clone, Copy, PartialEq, Eq, Debug)]
 pub enum Source {
     /// A table of so many states and propositions; lines for its steps and holdings follow.
+    // Two numbers, not a `Size`: a line has them one after the other, and the language's definitions name each.
     Table(u16, u8),
     /// A pool of so many buffers, and its guard.
+    // The guard is a number, as a pool has it.
     Pool(u8, u8),
 }
 
@@ -22,10 +24,11 @@ pub struct Ask {
 }
 
 /// What the lines after the model's say. The rows are those of all formulas, in the order in which they are entered.
-#[derive(Drop)]
+#[derive(Default, Drop)]
 pub struct Body {
     pub steps: ArrayVec<Step, 1024>,
     pub holdings: ArrayVec<Holding, 1024>,
+    // One list for all asks, and an ask tells its row by number: so the sheet numbers them.
     pub rows: ArrayVec<Row, 32>,
     pub asks: ArrayVec<Ask, 8>,
 }
@@ -49,6 +52,7 @@ impl Body {
 #[derive(Drop)]
 pub struct Script {
     /// How many levels the scale has: 1 or 4.
+    // Not an enum: the number counts levels, and `digits` takes it so.
     pub levels: u8,
     pub source: Source,
     pub body: Body,

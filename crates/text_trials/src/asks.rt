@@ -1,4 +1,5 @@
 //! Refusals of the model and of asks, and which refusal comes first.
+//! Each test is a table of cases under its own name.
 use super::calls::{POOL, ROUND, SCALE, TABLE, all};
 
 #[test]

@@ -1,18 +1,17 @@
 //! Bytes that fit nowhere, and the lengths of the text and of the buffer.
-use super::calls::{MARK, ROUND, add, add_bytes, add_times, lists, noted};
-use arrayvec::ArrayVec;
+use super::calls::{MARK, ROUND, Text, add, add_bytes, lists, noted, repeated};
 use listing::listing::list;
 use std::process::Abort;
 
 /// After the head and what follows it, each byte but the lawful ones is the fault's place, whatever comes then.
 fn only(rt: &impl Abort, lawful: &str, head: &str, more: &str, listing: &str) {
     for b in (0..=255u8).filter(|b| !lawful.as_bytes().contains(b)) {
-        let mut text: ArrayVec<u8, 20000> = ArrayVec::new();
+        let mut text = Text::new();
         add(&mut text, head);
         add(&mut text, more);
         add_bytes(&mut text, &[b]);
         add(&mut text, "4 (p 0)\n");
-        noted(rt, b, text.as_slice(), 15, listing.as_bytes());
+        noted(rt, b, &text, 15, listing);
     }
 }
 
@@ -64,39 +63,30 @@ fn any_byte_in_later_lines(rt: HostRuntime) {
     );
 }
 
-/// A text with spaces in its first line up to so many, and an end.
-fn spaced(times: usize, end: &str) -> ArrayVec<u8, 20000> {
-    let mut text = ArrayVec::new();
-    add(&mut text, "(scale");
-    add_times(&mut text, " ", times);
-    add(&mut text, end);
-    text
-}
-
 #[test]
 fn a_text_has_16384_bytes(rt: HostRuntime) {
     let end = "4)\n(pool 1 0)\n(ask 0 (p 1))\n";
-    let at = spaced(16350, end);
-    assert!(rt; at.len() == 16384);
-    lists(&rt, at.as_slice(), 0, b"(degree 0 0 1111)\n");
-    let past = spaced(16351, end);
-    assert!(rt; past.len() == 16385);
-    lists(&rt, past.as_slice(), 14, b"(fault text 14 1 1 0)\n");
-    let cut = spaced(16378, "");
-    assert!(rt; cut.len() == 16384);
-    lists(&rt, cut.as_slice(), 15, b"(fault text 15 1 16385 0)\n");
-    let long = spaced(16378, "x");
-    lists(&rt, long.as_slice(), 14, b"(fault text 14 1 1 0)\n");
-    lists(&rt, &[b'\n'; 16384], 15, b"(fault text 15 1 1 0)\n");
-    lists(&rt, &[b'\n'; 16385], 14, b"(fault text 14 1 1 0)\n");
-    lists(&rt, &[0; 20000], 14, b"(fault text 14 1 1 0)\n")
+    let at = repeated(&["(scale"], " ", 16350, end);
+    assert_eq!(rt; at.len(), 16384);
+    lists(&rt, &at, 0, "(degree 0 0 1111)\n");
+    let past = repeated(&["(scale"], " ", 16351, end);
+    assert_eq!(rt; past.len(), 16385);
+    lists(&rt, &past, 14, "(fault text 14 1 1 0)\n");
+    let cut = repeated(&["(scale"], " ", 16378, "");
+    assert_eq!(rt; cut.len(), 16384);
+    lists(&rt, &cut, 15, "(fault text 15 1 16385 0)\n");
+    let long = repeated(&["(scale"], " ", 16378, "x");
+    lists(&rt, &long, 14, "(fault text 14 1 1 0)\n");
+    lists(&rt, &[b'\n'; 16384], 15, "(fault text 15 1 1 0)\n");
+    lists(&rt, &[b'\n'; 16385], 14, "(fault text 14 1 1 0)\n");
+    lists(&rt, &[0; 20000], 14, "(fault text 14 1 1 0)\n");
 }
 
 /// In a buffer of so many bytes nothing is written.
 fn refused(rt: &impl Abort, text: &[u8], size: usize) {
     let mut buffer = [MARK; 256];
     assert!(rt; size < 256);
-    let listed = list(text, &mut buffer[0..size]);
+    let listed = list(text, &mut buffer[..size]);
     assert_eq!(rt; listed.number, 18);
     assert_eq!(rt; listed.written, 0);
     assert_eq!(rt; buffer, [MARK; 256]);
@@ -119,7 +109,7 @@ fn a_buffer_of_256_bytes_is_enough(rt: HostRuntime) {
     assert_eq!(rt; listed.number, 0);
     assert_eq!(rt; listed.written, 15);
     assert_eq!(rt; &buffer[0..15], b"(degree 0 0 1)\n".as_slice());
-    assert!(rt; buffer[15..].iter().all(|b| *b == MARK));
+    assert!(rt; buffer[15..].iter().all(|&b| b == MARK));
     let again = list(b"(", &mut buffer);
     assert_eq!(rt; again.number, 15);
     assert_eq!(rt; again.written, 22);

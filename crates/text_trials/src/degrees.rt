@@ -1,6 +1,8 @@
 //! Degrees.
-use super::calls::{POOL, ROUND, add, add_bytes, all, noted};
-use arrayvec::ArrayVec;
+use super::calls::{POOL, ROUND, Text, add, all, noted};
+use arrayvec::ArrayString;
+use std::fmt::Write as _;
+use std::io::Write as _;
 use std::process::Abort;
 
 /// Two states by turns, the proposition in the first, on the scale of one level.
@@ -12,24 +14,14 @@ const FORK: &str =
 
 /// Asks a formula at the first states, one after another.
 fn degrees(rt: &impl Abort, head: &str, formula: &str, each: &[&str]) {
-    let mut text: ArrayVec<u8, 20000> = ArrayVec::new();
-    let mut listing: ArrayVec<u8, 256> = ArrayVec::new();
+    let mut text = Text::new();
+    let mut listing: ArrayString<256> = ArrayString::new();
     add(&mut text, head);
-    for (state, degree) in (b'0'..=b'9').zip(each) {
-        add(&mut text, "(ask ");
-        add_bytes(&mut text, &[state]);
-        add(&mut text, " ");
-        add(&mut text, formula);
-        add(&mut text, ")\n");
-        add(&mut listing, "(degree ");
-        add_bytes(&mut listing, &[state]);
-        add(&mut listing, " ");
-        add_bytes(&mut listing, &[state]);
-        add(&mut listing, " ");
-        add(&mut listing, degree);
-        add(&mut listing, ")\n");
+    for (state, degree) in each.iter().enumerate() {
+        let _fits = writeln!(text, "(ask {state} {formula})");
+        let _fits = writeln!(listing, "(degree {state} {state} {degree})");
     }
-    noted(rt, formula, text.as_slice(), 0, listing.as_slice());
+    noted(rt, formula, &text, 0, &listing);
 }
 
 #[test]

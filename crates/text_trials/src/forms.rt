@@ -1,4 +1,5 @@
 //! Forms: a byte at which no lawful line goes on, or a text that ends early.
+//! Each test is a table of cases under its own name.
 use super::calls::{POOL, ROUND, SCALE, TABLE, all};
 
 #[test]

@@ -1,4 +1,5 @@
 //! Numbers out of their ranges.
+//! Each test is a table of cases under its own name.
 use super::calls::{SCALE, TABLE, all};
 
 #[test]

@@ -19,10 +19,8 @@ fn whole<S: Scale>(rt: &HostRuntime, scale: &S) -> io::Result<()> {
         }
     }
     print!(rt; "  degrees:")?;
-    for degree in 0..=levels {
-        if let Some(text) = digits(levels, degree) {
-            print!(rt; " {text}")?;
-        }
+    for text in (0..=levels).filter_map(|degree| digits(levels, degree)) {
+        print!(rt; " {text}")?;
     }
     println!(rt; "")
 }

@@ -41,27 +41,12 @@ struct Desk<'a, M, S> {
     bytes: &'a mut [u8],
 }
 
-impl<'a, M: Model, S: Scale> Desk<'a, M, S> {
+impl<M: Model, S: Scale> Desk<'_, M, S> {
     /// Enters a row and prints its degrees, or the refusal.
     fn enter(&mut self, row: Row, text: &str) -> io::Result<()> {
-        let model = self.model;
-        self.enter_over(model, row, text)
-    }
-
-    /// Enters a row over another model.
-    fn enter_over<N: Model>(&mut self, other: &N, row: Row, text: &str) -> io::Result<()> {
         let entered = self
             .sheet
-            .enter(other, self.scale, self.rows, self.bytes, row);
-        self.tell(text, entered)
-    }
-
-    // Not `enter_over` with the bytes as well: the desk's own are lent mutably, and cannot be passed beside the desk.
-    /// Enters a row with other bytes.
-    fn enter_in(&mut self, bytes: &mut [u8], row: Row, text: &str) -> io::Result<()> {
-        let entered = self
-            .sheet
-            .enter(self.model, self.scale, self.rows, bytes, row);
+            .enter(self.model, self.scale, self.rows, self.bytes, row);
         self.tell(text, entered)
     }
 
@@ -75,62 +60,73 @@ impl<'a, M: Model, S: Scale> Desk<'a, M, S> {
 
     /// Prints the degrees of a row that was entered, or the refusal.
     fn tell(&self, text: &str, entered: Result<u8, SheetFault>) -> io::Result<()> {
-        let rt = self.rt;
         match entered {
             Ok(number) => {
-                print!(rt; "  row {number}, {text}:")?;
+                print!(self.rt; "  row {number}, {text}:")?;
                 self.degrees(number)
             }
-            Err(fault) => refused(rt, text, fault),
+            Err(fault) => refused(self.rt, text, fault),
         }
     }
 
     /// Prints why a row has no degree at state 0, if it has none.
     fn tell_refusal(&self, row: u8, text: &str) -> io::Result<()> {
-        match self.sheet.degree(self.bytes, row, 0) {
-            Ok(_) => Ok(()),
-            Err(fault) => refused(self.rt, text, fault),
+        if let Err(fault) = self.sheet.degree(self.bytes, row, 0) {
+            refused(self.rt, text, fault)?;
         }
+        Ok(())
     }
 
     /// The degrees of a row at the first four states.
     fn degrees(&self, row: u8) -> io::Result<()> {
-        let rt = self.rt;
         for s in 0..4 {
-            if let Ok(degree) = self.sheet.degree(self.bytes, row, s) {
-                if let Some(text) = digits(self.scale.levels(), degree) {
-                    print!(rt; " {s}={text}")?;
-                }
+            if let Ok(degree) = self.sheet.degree(self.bytes, row, s)
+                && let Some(text) = digits(self.scale.levels(), degree)
+            {
+                print!(self.rt; " {s}={text}")?;
             }
         }
-        println!(rt; "")
+        println!(self.rt; "")
     }
 }
 
-/// Opens a sheet and enters rows.
-fn opened<M: Model, S: Scale>(
+/// Opens a sheet, and then works at its desk, or prints the refusal.
+fn opened<M: Model, S: Scale, F: FnOnce(&mut Desk<M, S>) -> io::Result<()>>(
+    rt: &HostRuntime,
+    model: &M,
+    scale: &S,
+    rows: &mut [Row],
+    bytes: &mut [u8],
+    then: F,
+) -> io::Result<()>
+    requires { F.IsAlwaysCallable then }
+{
+    match Sheet::open(model, scale) {
+        Ok(sheet) => then(&mut Desk {
+            rt,
+            model,
+            scale,
+            sheet,
+            rows,
+            bytes,
+        }),
+        Err(fault) => refused(rt, "open", fault),
+    }
+}
+
+/// Opens a sheet with room for four rows, and enters these.
+fn four_rows<M: Model, S: Scale>(
     rt: &HostRuntime,
     model: &M,
     scale: &S,
     bytes: &mut [u8],
     asked: &[(Row, &str)],
 ) -> io::Result<()> {
-    match Sheet::open(model, scale) {
-        Ok(sheet) => {
-            let mut desk = Desk {
-                rt,
-                model,
-                scale,
-                sheet,
-                rows: &mut [Row::default(); 4],
-                bytes,
-            };
-            desk.enter_all(asked)
-        }
-        Err(fault) => refused(rt, "open", fault),
-    }
+    let rows = &mut [Row::default(); 4];
+    opened(rt, model, scale, rows, bytes, |desk| desk.enter_all(asked))
 }
 
+// Each of the next three is a table of rows under its own name.
 /// Proposition 0, always on every walk, on some walk, and after a step.
 fn about_p0<M: Model>(rt: &HostRuntime, model: &M) -> io::Result<()> {
     let asked = [
@@ -139,9 +135,10 @@ fn about_p0<M: Model>(rt: &HostRuntime, model: &M) -> io::Result<()> {
         (Row::of(EG, 0, 0), "EG p0"),
         (Row::of(EX, 0, 0), "EX p0"),
     ];
-    opened(rt, model, &FiveValued, &mut [0u8; 12], &asked)
+    four_rows(rt, model, &FiveValued, &mut [0; 12], &asked)
 }
 
+// Two numbers, as a `Pool` has them.
 /// Is a frame ever torn?
 fn about_torn(rt: &HostRuntime, buffers: u8, guard: u8) -> io::Result<()> {
     let asked = [
@@ -151,7 +148,7 @@ fn about_torn(rt: &HostRuntime, buffers: u8, guard: u8) -> io::Result<()> {
         (Row::of(EF, 0, 0), "EF p0"),
     ];
     let pool = Pool { buffers, guard };
-    opened(rt, &pool, &FiveValued, &mut [0u8; 16384], &asked)
+    four_rows(rt, &pool, &FiveValued, &mut [0; 16384], &asked)
 }
 
 /// The table of two states on the Boolean scale.
@@ -162,7 +159,7 @@ fn yes_or_no(rt: &HostRuntime) -> io::Result<()> {
         (Row::of(EX, 0, 0), "EX p0"),
         (Row::of(Kind::Imp, 1, 2), "AG p0 imp EX p0"),
     ];
-    opened(rt, &ALTERNATING, &Boolean, &mut [0u8; 8], &asked)
+    four_rows(rt, &ALTERNATING, &Boolean, &mut [0; 8], &asked)
 }
 
 /// Rows over the table of two states, and what is refused there.
@@ -175,6 +172,7 @@ fn two_states<M: Model>(desk: &mut Desk<M, FiveValued>) -> io::Result<()> {
         (Row::of(EX, 0, 0), "EX p0"),
         (Row::of(Kind::Imp, 1, 4), "AG p0 imp EX p0"),
         (
+            // By number: no `Kind` is the sixteenth.
             Row {
                 kind: 16,
                 ..Row::default()
@@ -189,40 +187,25 @@ fn two_states<M: Model>(desk: &mut Desk<M, FiveValued>) -> io::Result<()> {
         buffers: 1,
         guard: 0,
     };
-    desk.enter_over(&other, p0, "over another model")?;
-    desk.enter_in(&mut [0u8; 13], p0, "with a byte too few")?;
+    let entered = desk
+        .sheet
+        .enter(&other, desk.scale, desk.rows, desk.bytes, p0);
+    desk.tell("over another model", entered)?;
+    let short = &mut [0; 13];
+    let entered = desk
+        .sheet
+        .enter(desk.model, desk.scale, desk.rows, short, p0);
+    desk.tell("with a byte too few", entered)?;
     spoiled(desk)
-}
-
-fn spoil(bytes: &mut [u8]) {
-    if let Some(byte) = bytes.get_mut(3) {
-        *byte = 5;
-    }
 }
 
 /// A byte of row 1 is spoiled, and the row is read.
 fn spoiled<M: Model>(desk: &mut Desk<M, FiveValued>) -> io::Result<()> {
-    spoil(desk.bytes);
+    if let Some(byte) = desk.bytes.get_mut(3) {
+        *byte = 5;
+    }
     desk.enter(Row::of(Kind::Not, 1, 0), "not of a row with a spoiled byte")?;
     desk.tell_refusal(6, "the degree of row 6")
-}
-
-/// Opens a sheet over the table of two states, and enters its rows.
-fn over_two_states<M: Model>(rt: &HostRuntime, model: &M) -> io::Result<()> {
-    match Sheet::open(model, &FiveValued) {
-        Ok(sheet) => {
-            let mut desk = Desk {
-                rt,
-                model,
-                scale: &FiveValued,
-                sheet,
-                rows: &mut [Row::default(); 7],
-                bytes: &mut [0u8; 14],
-            };
-            two_states(&mut desk)
-        }
-        Err(fault) => refused(rt, "open", fault),
-    }
 }
 
 /// Sheets over tables and a pair.
@@ -230,7 +213,15 @@ pub(crate) fn tables(rt: &HostRuntime) -> io::Result<()> {
     println!(rt; "A sheet over the table of three states:")?;
     about_p0(rt, &STAYING)?;
     println!(rt; "Over the table of two states:")?;
-    over_two_states(rt, &ALTERNATING)?;
+    let rows = &mut [Row::default(); 7];
+    opened(
+        rt,
+        &ALTERNATING,
+        &FiveValued,
+        rows,
+        &mut [0; 14],
+        two_states,
+    )?;
     println!(rt; "Over the same on the Boolean scale:")?;
     yes_or_no(rt)?;
     println!(rt; "Over the pair of a one-state loop with it:")?;

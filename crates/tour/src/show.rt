@@ -3,11 +3,11 @@ ghost use Rattle.std.specs.Prelude.{◌≡◌};
 ghost use Rattle.tour.specs.Tally.{tally};
 
 use model::check::walkable;
-use model::fault::ModelFault;
 use model::interface::Model;
 use model::pool::Pool;
 use std::io;
 
+// `rt` goes to whatever prints; a struct of it and the model would only rename the two.
 /// Everything about a small model.
 pub(crate) fn whole<M: Model>(rt: &HostRuntime, model: &M) -> io::Result<()> {
     size(rt, model)?;
@@ -16,6 +16,7 @@ pub(crate) fn whole<M: Model>(rt: &HostRuntime, model: &M) -> io::Result<()> {
     walkability(rt, model)
 }
 
+// As `whole`, with one line more: one function with a flag would be no plainer.
 /// Everything about a small pool.
 pub(crate) fn pool(rt: &HostRuntime, pool: &Pool) -> io::Result<()> {
     size(rt, pool)?;
@@ -37,7 +38,7 @@ fn steps<M: Model>(rt: &HostRuntime, model: &M) -> io::Result<()> {
     print!(rt; "  steps:")?;
     let n = model.states();
     for s in 0..n {
-        for t in (0..n).filter(|t| model.least_step(s, *t) == Some(*t)) {
+        for t in (0..n).filter(|&t| model.least_step(s, t) == Some(t)) {
             print!(rt; " {s}-{t}")?;
         }
     }
@@ -48,7 +49,7 @@ fn steps<M: Model>(rt: &HostRuntime, model: &M) -> io::Result<()> {
 fn holdings<M: Model>(rt: &HostRuntime, model: &M) -> io::Result<()> {
     for p in 0..model.props() {
         print!(rt; "  proposition {p} holds in:")?;
-        for s in (0..model.states()).filter(|s| model.holds(p, *s)) {
+        for s in (0..model.states()).filter(|&s| model.holds(p, s)) {
             print!(rt; " {s}")?;
         }
         println!(rt; "")?;
@@ -60,7 +61,7 @@ fn holdings<M: Model>(rt: &HostRuntime, model: &M) -> io::Result<()> {
 fn count<M: Model>(model: &M, p: u8) -> usize
     ensures { result ≡ tally (M.meaning model.now).states ((M.meaning model.now).holds p) }
 {
-    (0..model.states()).filter(|s| model.holds(p, *s)).count()
+    (0..model.states()).filter(|&s| model.holds(p, s)).count()
 }
 
 /// In how many states a frame is torn, where proposition `p` says so.
@@ -74,12 +75,6 @@ pub(crate) fn torn<M: Model>(rt: &HostRuntime, model: &M, p: u8) -> io::Result<(
 pub(crate) fn walkability<M: Model>(rt: &HostRuntime, model: &M) -> io::Result<()> {
     match walkable(model) {
         Ok(()) => println!(rt; "  can be walked: every state has a step"),
-        Err(fault) => {
-            print!(rt; "  refused with {}: ", fault.number())?;
-            match fault {
-                ModelFault::NoStates => println!(rt; "it has no states"),
-                ModelFault::DeadEnd(state) => println!(rt; "state {state} has no step"),
-            }
-        }
+        Err(fault) => println!(rt; "  refused with {}: {fault}", fault.number()),
     }
 }

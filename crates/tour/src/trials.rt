@@ -3,7 +3,7 @@ use logic::trials::trials;
 use scale::digits::digits;
 use std::io;
 
-/// What each trial asks, and how many levels its scale has.
+/// What each trial asks, and how many levels its scale has; a trial's number is its place here.
 const TRIALS: [(&str, u8); 11] = [
     ("three states, AG p0", 4),
     ("three states, EG p0", 4),
@@ -31,11 +31,10 @@ pub(crate) fn all(rt: &HostRuntime) -> io::Result<()> {
 /// The degrees of a trial, each after its state.
 fn degrees(rt: &HostRuntime, trial: usize, levels: u8) -> io::Result<()> {
     for entry in trials() {
-        if usize::from(entry.trial) == trial {
-            if let Some(degree) = digits(levels, entry.degree) {
-                let state = entry.state;
-                print!(rt; " {state}={degree}")?;
-            }
+        if usize::from(entry.trial) == trial
+            && let Some(degree) = digits(levels, entry.degree)
+        {
+            print!(rt; " {}={degree}", entry.state)?;
         }
     }
     println!(rt; "")

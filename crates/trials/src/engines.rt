@@ -1,11 +1,10 @@
 //! Satisfaction sets worked out by hand.
-use super::tables::{ROUND, STAYING};
+use super::tables::{ROUND, STAYING, pool};
 use engine::operands::Operands;
 use engine::operator::Operator;
 use engine::satisfy::satisfy;
 use engine::sets::StateSet;
 use model::interface::Model;
-use model::pool::Pool;
 use scale::reading::Reading;
 
 /// The states where proposition 0 holds, or where it does not.
@@ -29,9 +28,9 @@ fn globally<M: Model>(model: &M, some: bool, reading: Reading, holds: bool) -> (
     );
     let n = model.states();
     let bits = (0..n.min(32))
-        .filter(|s| set.has(*s))
+        .filter(|&s| set.has(s))
         .fold(0u32, |bits, s| bits | 1 << s);
-    (bits, (0..n).filter(|s| set.has(*s)).count())
+    (bits, (0..n).filter(|&s| set.has(s)).count())
 }
 
 #[test]
@@ -65,10 +64,7 @@ fn levels_of_ag_on_two_states(rt: HostRuntime) {
 
 #[test]
 fn no_torn_frame_in_six_buffers(rt: HostRuntime) {
-    let pool = Pool {
-        buffers: 6,
-        guard: 0,
-    };
+    let pool = pool(6, 0);
     assert_eq!(rt;
         globally(&pool, false, Reading::Sometime, false).1,
         729,

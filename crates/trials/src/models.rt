@@ -1,20 +1,15 @@
 //! Models at the edges.
-use super::tables::{ROUND, STILL};
+use super::tables::{ROUND, STILL, pool};
 use model::check::walkable;
 use model::fault::ModelFault;
 use model::interface::{Model, Size};
 use model::pair::Pair;
-use model::pool::Pool;
 use model::table::{Holding, Step, Table};
 
 const NOTHING: Size = Size {
     states: 0,
     props: 0,
 };
-
-fn pool(buffers: u8, guard: u8) -> Pool {
-    Pool { buffers, guard }
-}
 
 fn size(states: u16, props: u8) -> Size {
     Size { states, props }
@@ -25,18 +20,19 @@ fn beside<A, B>(first: A, second: B) -> Pair<A, B> {
     Pair { first, second }
 }
 
+// By `fold`, since the count of a `flat_map` owes a proof that it fits, and that did not close.
 /// How many steps a model has.
 fn steps<M: Model>(model: &M) -> usize {
     let n = model.states();
     (0..n).fold(0usize, |k, s| {
-        let from_s = (0..n).filter(|t| model.least_step(s, *t) == Some(*t));
+        let from_s = (0..n).filter(|&t| model.least_step(s, t) == Some(t));
         k.saturating_add(from_s.count())
     })
 }
 
 /// In how many states a proposition holds.
 fn holdings<M: Model>(model: &M, p: u8) -> usize {
-    (0..model.states()).filter(|s| model.holds(p, *s)).count()
+    (0..model.states()).filter(|&s| model.holds(p, s)).count()
 }
 
 #[test]
@@ -93,27 +89,19 @@ fn pools_pair_up_to_4096_states(rt: HostRuntime) {
 fn a_table_beyond_the_limits_has_nothing(rt: HostRuntime) {
     let tall = Table {
         states: 4097,
-        props: 1,
-        steps: ROUND.steps,
-        holdings: ROUND.holdings,
+        ..ROUND
     };
     assert_eq!(rt; tall.size(), NOTHING);
     assert_eq!(rt; tall.least_step(0, 0), None);
     assert!(rt; !tall.holds(0, 0));
-    let wide = Table {
-        states: 2,
-        props: 65,
-        steps: ROUND.steps,
-        holdings: ROUND.holdings,
-    };
+    let wide = Table { props: 65, ..ROUND };
     assert_eq!(rt; wide.size(), NOTHING);
     assert_eq!(rt; wide.least_step(0, 0), None);
     assert!(rt; !wide.holds(0, 0));
     let full = Table {
         states: 4096,
         props: 64,
-        steps: ROUND.steps,
-        holdings: ROUND.holdings,
+        ..ROUND
     };
     assert_eq!(rt; full.size(), size(4096, 64));
 }
@@ -195,18 +183,12 @@ fn a_part_without_states_leaves_a_pair_without(rt: HostRuntime) {
     let empty = Table {
         states: 0,
         props: 3,
-        steps: ROUND.steps,
-        holdings: ROUND.holdings,
+        ..ROUND
     };
     assert_eq!(rt; empty.size(), size(0, 3));
     assert_eq!(rt; beside(empty, ROUND).size(), NOTHING);
     assert_eq!(rt; beside(ROUND, empty).size(), NOTHING);
-    let labelled = Table {
-        states: 1,
-        props: 64,
-        steps: STILL.steps,
-        holdings: &[],
-    };
+    let labelled = Table { props: 64, ..STILL };
     assert_eq!(rt; beside(labelled, ROUND).size(), NOTHING);
     assert_eq!(rt; beside(labelled, STILL).size(), size(1, 64));
 }

@@ -1,8 +1,9 @@
-//! Rows entered on a sheet.
+//! Rows entered on a sheet. Each refusal is a test under its own name.
+// Model, scale, rows and bytes one by one, as each call of the sheet takes them: the user's form.
+use super::tables::pool;
 use engine::operator::Operator;
 use model::interface::Model;
 use model::pair::Pair;
-use model::pool::Pool;
 use scale::scales::FiveValued;
 use sheet::fault::SheetFault;
 use sheet::kinds::{KINDS, Kind};
@@ -21,33 +22,20 @@ fn never_p0<M: Model>(model: &M) -> Result<u8, SheetFault> {
     let scale = FiveValued;
     let mut sheet = Sheet::open(model, &scale)?;
     let a = sheet.enter(model, &scale, &mut rows, &mut bytes, p0())?;
-    let b = sheet.enter(
-        model,
-        &scale,
-        &mut rows,
-        &mut bytes,
-        Row::of(Kind::Not, a, 0),
-    )?;
-    let c = sheet.enter(
-        model,
-        &scale,
-        &mut rows,
-        &mut bytes,
-        Row::of(Kind::A(Operator::Globally), b, 0),
-    )?;
+    let not = Row::of(Kind::Not, a, 0);
+    let b = sheet.enter(model, &scale, &mut rows, &mut bytes, not)?;
+    let always = Row::of(Kind::A(Operator::Globally), b, 0);
+    let c = sheet.enter(model, &scale, &mut rows, &mut bytes, always)?;
     sheet.degree(&bytes, c, 0)
 }
 
+// By number: the numbers are what is promised, and a variant would hide a wrong one.
 /// A number, or the number of a fault.
 type Answer = Result<u8, u8>;
 
 /// The answer, with the fault's number in place of the fault.
 fn told(answer: Result<u8, SheetFault>) -> Answer {
-    answer.map_err(|fault| fault.number())
-}
-
-fn pool(buffers: u8, guard: u8) -> Pool {
-    Pool { buffers, guard }
+    answer.map_err(SheetFault::number)
 }
 
 #[test]
@@ -129,12 +117,12 @@ fn spoiled<M: Model>(model: &M) -> Result<(Answer, Answer, u8), SheetFault> {
 
 #[test]
 fn a_spoiled_byte_is_refused_and_changes_nothing(rt: HostRuntime) {
-    assert!(rt; spoiled(&pool(1, 0)) == Ok((Err(9), Err(8), 7)));
+    assert_eq!(rt; spoiled(&pool(1, 0)), Ok((Err(9), Err(8), 7)));
 }
 
 #[test]
 fn another_model_is_refused_first(rt: HostRuntime) {
-    assert!(rt; spoiled(&pool(2, 0)) == Ok((Err(3), Err(8), 7)));
+    assert_eq!(rt; spoiled(&pool(2, 0)), Ok((Err(3), Err(8), 7)));
 }
 
 #[test]

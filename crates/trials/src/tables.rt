@@ -1,4 +1,6 @@
-//! Tables that tests share.
+//! Models that tests share.
+// The tables are the tour's as well: no crate can name what is in a program.
+use model::pool::Pool;
 use model::table::{Holding, Step, Table};
 
 /// Three states: the walk may stay in the first and must stay in the last.
@@ -29,3 +31,9 @@ pub(crate) const STILL: Table<'static> = Table {
     steps: &[Step { from: 0, to: 0 }],
     holdings: &[],
 };
+
+// Two numbers, as a `Pool` has them.
+/// A pool of frame buffers.
+pub(crate) fn pool(buffers: u8, guard: u8) -> Pool {
+    Pool { buffers, guard }
+}

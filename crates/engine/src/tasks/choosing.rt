@@ -1,11 +1,8 @@
 //! The task for a row and a level.
-ghost use Rattle.std.specs.Prelude.{not, ◌&&◌};
 ghost use Rattle.engine.specs.Marks.{members};
-ghost use Rattle.engine.specs.Rounded.{Holds};
 ghost use Rattle.engine.specs.Satisfied.{asked, quantifier};
 ghost use Rattle.engine.specs.Shown.{Carries};
 ghost use Rattle.logic.specs.Searches.{meet_weak, break_weak, meet_task, break_task, task_of};
-ghost use Rattle.logic.specs.Sets.{complement};
 
 use super::Task;
 use crate::operands::Operands;
@@ -14,14 +11,9 @@ use crate::sets::StateSet;
 use model::interface::Model;
 use scale::reading::Reading;
 
-/// The states that the set has not.
-fn outside<M: Model>(model: &M, set: &StateSet) -> StateSet
-    ensures { Holds (M.meaning model.now).states (complement (members set.now)) result }
-{
-    StateSet::such_that(model, |s| !set.has(s))
-}
-
+// Four tables, one for each definition of the logic: two to meet a level and two to break it.
 /// To meet a level with W.
+#[tactic(auto, using(crate::proofs::Choosing::holds_none))]
 fn meet_weak<M: Model>(model: &M, reading: Reading, operands: Operands) -> Task
     ensures { Carries (M.meaning model.now).states (meet_weak reading (members operands.entry.left.now) (members operands.entry.right.now)) result }
 {
@@ -56,12 +48,13 @@ fn meet_weak<M: Model>(model: &M, reading: Reading, operands: Operands) -> Task
 }
 
 /// To break a level with W.
+#[tactic(auto, using(crate::proofs::Choosing::holds_none))]
 fn break_weak<M: Model>(model: &M, reading: Reading, operands: Operands) -> Task
     ensures { Carries (M.meaning model.now).states (break_weak reading (members operands.entry.left.now) (members operands.entry.right.now)) result }
 {
     let none = StateSet::of(false);
     let bad = operands.neither(model);
-    let free = outside(model, operands.right);
+    let free = operands.right.outside(model);
     match reading {
         Reading::Sometime => Task {
             a: none,
@@ -91,6 +84,7 @@ fn break_weak<M: Model>(model: &M, reading: Reading, operands: Operands) -> Task
 }
 
 /// To meet a level with any operator.
+#[tactic(auto, using(crate::proofs::Choosing::holds_none))]
 fn meet<M: Model>(model: &M, operator: Operator, reading: Reading, operands: Operands) -> Task
     ensures { Carries (M.meaning model.now).states (meet_task (asked operator) reading (members operands.entry.left.now) (members operands.entry.right.now)) result }
 {
@@ -128,6 +122,7 @@ fn meet<M: Model>(model: &M, operator: Operator, reading: Reading, operands: Ope
 }
 
 /// To break a level with any operator.
+#[tactic(auto, using(crate::proofs::Choosing::holds_none, crate::proofs::Choosing::outside_all))]
 fn break_level<M: Model>(
     model: &M,
     operator: Operator,
@@ -139,7 +134,7 @@ fn break_level<M: Model>(
     let none = StateSet::of(false);
     match operator {
         Operator::Next => Task {
-            a: outside(model, operands.left),
+            a: operands.left.outside(model),
             b: none,
             c: none,
             settles: false,
@@ -147,7 +142,7 @@ fn break_level<M: Model>(
         Operator::Finally => Task {
             a: none,
             b: none,
-            c: outside(model, operands.left),
+            c: operands.left.outside(model),
             settles: false,
         },
         Operator::Globally => break_weak(
@@ -161,7 +156,7 @@ fn break_level<M: Model>(
         Operator::Until => Task {
             a: operands.neither(model),
             b: none,
-            c: outside(model, operands.right),
+            c: operands.right.outside(model),
             settles: false,
         },
         Operator::Weak => break_weak(model, reading, operands),
@@ -178,6 +173,7 @@ pub(crate) fn task_of<M: Model>(
 ) -> Task
     ensures { Carries (M.meaning model.now).states (task_of (quantifier some) (asked operator) reading (members operands.entry.left.now) (members operands.entry.right.now)) result }
 {
+    // `some` is asked here alone, between two calls: a closure or a `dyn` value would be no plainer.
     if some {
         meet(model, operator, reading, operands)
     } else {

@@ -25,10 +25,8 @@ impl Sheet {
         ensures { (rs : List Record) (bs : List ℕ) → seen_in result rs bs ≡ open_answer (M.meaning model.now) (S.grades scale.now) rs bs }
     {
         walkable(model)?;
-        let size = model.size();
         Ok(Sheet {
-            states: size.states,
-            props: size.props,
+            size: model.size(),
             levels: scale.levels(),
             rows: 0,
         })
@@ -51,13 +49,8 @@ impl Sheet {
             .check(model, scale, rows, bytes, row)?
             .work_out(model, scale);
         let count = self.rows;
-        write(
-            bytes,
-            count as usize * self.states as usize,
-            self.states,
-            &degrees,
-        );
-        rows[count as usize] = row;
+        write(bytes, self.used(), self.size.states, &degrees);
+        rows[usize::from(count)] = row;
         self.rows = count + 1;
         Ok(count)
     }
@@ -74,17 +67,10 @@ impl Sheet {
         ensures exact { (rs : List Record) → answer result ≡ degree_answer (seen self.now rs bytes.now) row state }
         ensures law { (rs : List Record) → DegreeIsTrue (seen self.now rs bytes.now) row state (answer result) }
     {
-        self.read_degree(bytes, row, state)
-    }
-
-    /// Reads the byte of a row at a state.
-    fn read_degree(&self, bytes: &[u8], row: u8, state: u16) -> Result<u8, SheetFault>
-        ensures { (rs : List Record) → answer result ≡ degree_answer (seen self.now rs bytes.now) row state }
-    {
-        if row >= self.rows || state >= self.states {
+        if row >= self.rows || state >= self.size.states {
             return Err(SheetFault::NoRow);
         }
-        if bytes.len() < self.rows as usize * self.states as usize {
+        if bytes.len() < self.used() {
             return Err(SheetFault::Short);
         }
         let byte = Lent { sheet: self, bytes }.byte(row, state);
@@ -110,6 +96,8 @@ impl Sheet {
         ensures exact { Walks (M.meaning model.now) (S.grades scale.now) (seen self.now rows.now bytes.now) row state level out.old out.new (answer result) }
         ensures law { WalkIsTrue (seen self.now rows.now bytes.now) row state level out.old out.new (answer result) (M.meaning model.now) (S.grades scale.now) }
     {
-        self.find_walk(model, scale, rows, bytes, row, state, level, out)
+        self.check_walk(model, scale, rows, bytes, row, state, level, out.len())?
+            .seek(model, scale, state, level, out)
+            .ok_or(SheetFault::NoWalk)
     }
 }

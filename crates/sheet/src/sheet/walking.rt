@@ -5,9 +5,9 @@ ghost use Rattle.sheet.specs.Calls.{and_then};
 ghost use Rattle.sheet.specs.Checks.{ReadyToWalk};
 ghost use Rattle.sheet.specs.Faults.{answer};
 ghost use Rattle.sheet.specs.Kinds.{number_of};
-ghost use Rattle.sheet.specs.Over.{state_of, row_of, outcome, Lends, Stands};
+ghost use Rattle.sheet.specs.Over.{state_of, row_of, outcome, Fits, Lends, Stands};
 ghost use Rattle.sheet.specs.States.{seen};
-ghost use Rattle.sheet.specs.Walking.{record_of, present, roomy_now, asks_walks, operands_now, leveled, walking, WantedBy, Seeks, Walks};
+ghost use Rattle.sheet.specs.Walking.{record_of, present, roomy_now, asks_walks, operands_now, leveled, walking, WantedBy, Seeks};
 ghost use Rattle.sheet.specs.declared.row.Row.{Row as Record};
 
 use super::Sheet;
@@ -26,6 +26,7 @@ fn asking_kind(row: Row) -> Result<Kind, SheetFault>
     ensures known { IfOk result (λ kind. (number_of kind ≡ row.kind) × (6 ≤ row.kind)) }
     ensures exact { outcome result ≡ asks_walks row }
 {
+    // One match: a chain of `ok`, `filter` and `ok_or` reads no plainer.
     match Kind::try_from(row.kind) {
         Ok(kind) if kind.path().is_some() => Ok(kind),
         _ => Err(SheetFault::NoPath),
@@ -33,6 +34,7 @@ fn asking_kind(row: Row) -> Result<Kind, SheetFault>
 }
 
 impl Sheet {
+    // Row, state and level come one by one, as a user gives them to `walk`: a struct of the three would serve these calls alone.
     /// The sheet with its bytes, if the row and the state are there and the buffers are long enough for the rows.
     fn lend<'a>(
         &'a self,
@@ -42,14 +44,12 @@ impl Sheet {
         state: u16,
     ) -> Result<Lent<'a>, SheetFault>
         ensures exact { outcome result ≡ and_then (present (seen self.now rows.now bytes.now) row state) (roomy_now (seen self.now rows.now bytes.now)) }
-        ensures known { IfOk result (λ x. (row < self.now.rows) × (state < self.now.states) × (self.now.rows ≤ length rows.now) × (self.now.rows * self.now.states ≤ length bytes.now) × Lends x self.now bytes.now) }
+        ensures known { IfOk result (λ x. (row < self.now.rows) × (state < self.now.size.states) × (self.now.rows ≤ length rows.now) × (self.now.rows * self.now.size.states ≤ length bytes.now) × Lends x self.now bytes.now) }
     {
-        if row >= self.rows || state >= self.states {
+        if row >= self.rows || state >= self.size.states {
             return Err(SheetFault::NoRow);
         }
-        if rows.len() < self.rows as usize
-            || bytes.len() < self.rows as usize * self.states as usize
-        {
+        if rows.len() < usize::from(self.rows) || bytes.len() < self.used() {
             return Err(SheetFault::Short);
         }
         Ok(Lent { sheet: self, bytes })
@@ -58,19 +58,20 @@ impl Sheet {
     /// Is there such a level, and room for a walk?
     fn has_level(&self, level: u8, room: usize) -> Result<(), SheetFault>
         ensures exact { (rs : List Record) (bs : List ℕ) → answer result ≡ leveled (seen self.now rs bs) level room }
-        ensures known { result ≡ Ok tt → (1 ≤ level) × (level ≤ self.now.levels) × (2 * self.now.states ≤ room) }
+        ensures known { result ≡ Ok tt → (1 ≤ level) × (level ≤ self.now.levels) × (2 * self.now.size.states ≤ room) }
     {
         if !(1..=self.levels).contains(&level) {
             return Err(SheetFault::Level);
         }
-        if room < 2 * self.states as usize {
+        if room < 2 * usize::from(self.size.states) {
             return Err(SheetFault::WalkShort);
         }
         Ok(())
     }
 
+    // All one by one, as `walk` is given them.
     /// All that `walk` checks before it looks for a walk, in its order. Returns the row with its sheet and bytes.
-    fn check_walk<'a, M: Model, S: Scale>(
+    pub(crate) fn check_walk<'a, M: Model, S: Scale>(
         &'a self,
         model: &M,
         scale: &S,
@@ -87,28 +88,9 @@ impl Sheet {
         self.fits(model, scale)?;
         walkable(model)?;
         let lent = self.lend(rows, bytes, row, state)?;
-        let known = lent.recorded(row, rows[row as usize])?;
+        let known = lent.recorded(row, rows[usize::from(row)])?;
         self.has_level(level, room)?;
         Ok(known)
-    }
-
-    /// Looks for a walk, and says so where there is none.
-    pub(crate) fn find_walk<M: Model, S: Scale>(
-        &self,
-        model: &M,
-        scale: &S,
-        rows: &[Row],
-        bytes: &[u8],
-        row: u8,
-        state: u16,
-        level: u8,
-        out: &mut [u16],
-    ) -> Result<(u16, u16), SheetFault>
-        ensures { Walks (M.meaning model.now) (S.grades scale.now) (seen self.now rows.now bytes.now) row state level out.old out.new (answer result) }
-    {
-        self.check_walk(model, scale, rows, bytes, row, state, level, out.len())?
-            .seek(model, scale, state, level, out)
-            .ok_or(SheetFault::NoWalk)
     }
 }
 
@@ -127,8 +109,9 @@ impl<'a> Lent<'a> {
 }
 
 impl Known<'_> {
+    // Model, scale, state and level one by one, with what is asked of them, as in `working.rt`.
     /// Looks for a walk that the row asks for.
-    fn seek<M: Model, S: Scale>(
+    pub(crate) fn seek<M: Model, S: Scale>(
         &self,
         model: &M,
         scale: &S,
@@ -136,13 +119,14 @@ impl Known<'_> {
         level: u8,
         out: &mut [u16],
     ) -> Option<(u16, u16)>
-        requires sizes { ((M.meaning model.now).states ≡ self.now.lent.sheet.now.states) × ((S.grades scale.now).levels ≡ self.now.lent.sheet.now.levels) × Total (M.meaning model.now) }
-        requires request { (state < self.now.lent.sheet.now.states) × (1 ≤ level) × (level ≤ self.now.lent.sheet.now.levels) }
-        requires room { self.now.lent.sheet.now.states ≤ length out.old }
+        requires sizes { Fits (M.meaning model.now) (S.grades scale.now) self.now.lent.sheet.now }
+        requires total { Total (M.meaning model.now) }
+        requires request { (state < self.now.lent.sheet.now.size.states) × (1 ≤ level) × (level ≤ self.now.lent.sheet.now.levels) }
+        requires room { self.now.lent.sheet.now.size.states ≤ length out.old }
         ensures { (rs : List Record) → Seeks (M.meaning model.now) (WantedBy (S.grades scale.now) (state_of self.now.lent rs) (row_of self.now) level) state out.old out.new result }
     {
         let (some, operator) = self.kind.path()?;
-        let reading = scale.reading(level)?;
+        let reading = scale.reading(level).unwrap();
         let left = self.lent.reaching(self.a, level);
         let right = self.second_reaching(level);
         let operands = Operands {

@@ -5,10 +5,9 @@ ghost use Rattle.engine.specs.Rounded.{Holds};
 ghost use Rattle.engine.specs.Satisfied.{asked, quantifier};
 ghost use Rattle.logic.specs.Kinds.{reach};
 ghost use Rattle.logic.specs.Kinds.Kind.{path};
-ghost use Rattle.logic.specs.Satisfaction.{highest};
 ghost use Rattle.sheet.specs.Calls.{given, first_of, second_of, reaches, degrees_of, written};
 ghost use Rattle.sheet.specs.Kinds.{number_of, meant};
-ghost use Rattle.sheet.specs.Over.{state_of, row_of};
+ghost use Rattle.sheet.specs.Over.{state_of, row_of, Fits};
 ghost use Rattle.sheet.specs.declared.row.Row.{Row as Record};
 
 use crate::kinds::Kind;
@@ -30,11 +29,8 @@ fn raised(n: u16, set: &StateSet, level: u8, degrees: &Degrees) -> Degrees
     ensures { (s : ℕ) → s < n → slice_index result.at s ≡ (if members set.now s then level else slice_index degrees.now.at s) }
 {
     Degrees::by(n, 0, |s| {
-        if set.has(s) {
-            level
-        } else {
-            degrees.at[s as usize]
-        }
+        let before = degrees.at[usize::from(s)];
+        if set.has(s) { level } else { before }
     })
 }
 
@@ -43,17 +39,19 @@ pub(crate) fn write(bytes: &mut [u8], start: usize, n: u16, degrees: &Degrees)
     requires { (n ≤ 4096) × (start + n ≤ length bytes.old) }
     ensures { bytes.new ≡ written bytes.old start n (λ s. slice_index degrees.now.at s) }
 {
-    let n = n as usize;
+    let n = usize::from(n);
     bytes[start..start + n].copy_from_slice(&degrees.at[..n]);
 }
 
 impl Lent<'_> {
+    // Row, state and level are numbers in the user's calls, so each of these asks that they are there: a type for each would be
+    // made and taken apart at once.
     /// The byte of a row at a state.
     pub(crate) fn byte(&self, row: u8, s: u16) -> u8
-        requires { (row < self.now.sheet.now.rows) × (s < self.now.sheet.now.states) }
-        ensures { result ≡ slice_index self.now.bytes.now (row * self.now.sheet.now.states + s) }
+        requires { (row < self.now.sheet.now.rows) × (s < self.now.sheet.now.size.states) }
+        ensures { result ≡ slice_index self.now.bytes.now (row * self.now.sheet.now.size.states + s) }
     {
-        self.bytes[row as usize * self.sheet.states as usize + s as usize]
+        self.bytes[usize::from(row) * usize::from(self.sheet.size.states) + usize::from(s)]
     }
 
     /// The states at which a row reaches a level.
@@ -61,20 +59,24 @@ impl Lent<'_> {
         requires { (row < self.now.sheet.now.rows) × (1 ≤ level) }
         ensures { (rs : List Record) (s : ℕ) → members result s ≡ reach (given (state_of self.now rs) row) level s }
     {
-        StateSet::by(self.sheet.states, false, |s| self.byte(row, s) >= level)
+        let states = self.sheet.size.states;
+        StateSet::by(states, false, |s| self.byte(row, s) >= level)
     }
 }
 
+// Model, scale, level and state go one by one, and each function asks that they are there and of the sheet's size: they
+// are what the users' calls are given, and come anew with each.
 impl Known<'_> {
+    // As in `second_at`, a `match`: one gives a set, the other a degree, and with `map_or` the proof did not close.
     /// The states at which the row's second operand reaches a level, none if it has no second operand.
     pub(crate) fn second_reaching(&self, level: u8) -> StateSet
         requires { 1 ≤ level }
         ensures { (rs : List Record) (s : ℕ) → members result s ≡ reach (second_of (state_of self.now.lent rs) (row_of self.now)) level s }
     {
-        if self.kind.is_binary() {
-            return self.lent.reaching(self.b, level);
+        match self.b {
+            Some(b) => self.lent.reaching(b, level),
+            None => StateSet::of(false),
         }
-        StateSet::of(false)
     }
 
     /// The states at which the row reaches a level, where it asks this of some walk, or of every walk.
@@ -95,11 +97,8 @@ impl Known<'_> {
             left: &left,
             right: &right,
         };
-        match scale.reading(level) {
-            Some(reading) => satisfy(model, some, operator, reading, operands),
-            // A level on the scale has a reading, so no call comes here, and no caller is asked for the reading.
-            None => left,
-        }
+        let reading = scale.reading(level).unwrap();
+        satisfy(model, some, operator, reading, operands)
     }
 
     /// The degrees of a row that asks for walks, level by level.
@@ -110,11 +109,11 @@ impl Known<'_> {
         some: bool,
         operator: Operator,
     ) -> Degrees
-        requires sizes { ((M.meaning model.now).states ≡ self.now.lent.sheet.now.states) × ((S.grades scale.now).levels ≡ self.now.lent.sheet.now.levels) }
+        requires sizes { Fits (M.meaning model.now) (S.grades scale.now) self.now.lent.sheet.now }
         requires path { meant self.now.kind self.now.a ≡ path (quantifier some) (asked operator) }
-        ensures { (rs : List Record) (s : ℕ) → s < self.now.lent.sheet.now.states → slice_index result.at s ≡ degrees_of (M.meaning model.now) (S.grades scale.now) (state_of self.now.lent rs) (row_of self.now) s }
+        ensures { (rs : List Record) (s : ℕ) → s < self.now.lent.sheet.now.size.states → slice_index result.at s ≡ degrees_of (M.meaning model.now) (S.grades scale.now) (state_of self.now.lent rs) (row_of self.now) s }
     {
-        let states = self.lent.sheet.states;
+        let states = self.lent.sheet.size.states;
         let mut degrees = Degrees::by(states, 0, |_| 0);
         for level in 1..=self.lent.sheet.levels {
             let set = self.level_set(model, scale, some, operator, level);
@@ -125,7 +124,7 @@ impl Known<'_> {
 
     /// The degree of the row's first operand at a state, where it has one.
     fn first_at(&self, s: u16) -> u8
-        requires { (s < self.now.lent.sheet.now.states) × (number_of self.now.kind ≢ 1) }
+        requires { (s < self.now.lent.sheet.now.size.states) × (number_of self.now.kind ≢ 1) }
         ensures { (rs : List Record) → first_of (state_of self.now.lent rs) (row_of self.now) s ≡ result }
     {
         self.lent.byte(self.a, s)
@@ -133,38 +132,38 @@ impl Known<'_> {
 
     /// The degree of the row's second operand at a state, 0 if it has none.
     fn second_at(&self, s: u16) -> u8
-        requires { s < self.now.lent.sheet.now.states }
+        requires { s < self.now.lent.sheet.now.size.states }
         ensures { (rs : List Record) → second_of (state_of self.now.lent rs) (row_of self.now) s ≡ result }
     {
-        if self.kind.is_binary() {
-            return self.lent.byte(self.b, s);
+        match self.b {
+            Some(b) => self.lent.byte(b, s),
+            None => 0,
         }
-        0
     }
 
     /// The degrees that a rule gives from the operands' degrees.
     fn by_operands<R: Fn(u8, u8) -> u8>(&self, rule: R) -> Degrees
         requires { (number_of self.now.kind ≢ 1) × R.IsAlwaysCallable rule }
-        ensures { (rs : List Record) (s : ℕ) → s < self.now.lent.sheet.now.states → R.post rule (first_of (state_of self.now.lent rs) (row_of self.now) s) (second_of (state_of self.now.lent rs) (row_of self.now) s) (slice_index result.at s) }
+        ensures { (rs : List Record) (s : ℕ) → s < self.now.lent.sheet.now.size.states → R.post rule (first_of (state_of self.now.lent rs) (row_of self.now) s) (second_of (state_of self.now.lent rs) (row_of self.now) s) (slice_index result.at s) }
     {
-        let states = self.lent.sheet.states;
+        let states = self.lent.sheet.size.states;
         Degrees::by(
             states,
             0,
             |s|
-                requires { (s < self.now.lent.sheet.now.states) × (number_of self.now.kind ≢ 1) × R.IsAlwaysCallable rule }
+                requires { (s < self.now.lent.sheet.now.size.states) × (number_of self.now.kind ≢ 1) × R.IsAlwaysCallable rule }
             { rule(self.first_at(s), self.second_at(s)) },
         )
     }
 
     /// The degrees of the row.
     pub(crate) fn work_out<M: Model, S: Scale>(&self, model: &M, scale: &S) -> Degrees
-        requires { ((M.meaning model.now).states ≡ self.now.lent.sheet.now.states) × ((S.grades scale.now).levels ≡ self.now.lent.sheet.now.levels) }
-        ensures { (rs : List Record) (s : ℕ) → s < self.now.lent.sheet.now.states → slice_index result.at s ≡ degrees_of (M.meaning model.now) (S.grades scale.now) (state_of self.now.lent rs) (row_of self.now) s }
+        requires sizes { Fits (M.meaning model.now) (S.grades scale.now) self.now.lent.sheet.now }
+        ensures { (rs : List Record) (s : ℕ) → s < self.now.lent.sheet.now.size.states → slice_index result.at s ≡ degrees_of (M.meaning model.now) (S.grades scale.now) (state_of self.now.lent rs) (row_of self.now) s }
     {
         let top = scale.levels();
         match self.kind {
-            Kind::Prop => Degrees::by(self.lent.sheet.states, 0, |s| {
+            Kind::Prop => Degrees::by(self.lent.sheet.size.states, 0, |s| {
                 if model.holds(self.a, s) { top } else { 0 }
             }),
             Kind::Or => self.by_operands(|a, b| a.max(b)),

@@ -1,9 +1,9 @@
 //! Formulas.
-ghost use Rattle.std.specs.Prelude.{◌≡◌, ℕ, ◌+◌, ◌-◌, ◌<◌, ◌≤◌, [], ◌∷◌, length, IfOk, OnOk};
+ghost use Rattle.std.specs.Prelude.{◌≡◌, ◌+◌, ◌-◌, ◌<◌, ◌≤◌, length, IfOk, OnOk};
 ghost use Rattle.sheet.specs.Kinds.{number_of};
 ghost use Rattle.sheet.specs.declared.kinds.Kind.TheVariants.{E, A};
-ghost use Rattle.text.specs.Formulas.{named, operator_at, name_at, open_at, close_at, row_for, prop_at, formula_at};
-ghost use Rattle.text.specs.Reads.{beside, beside_by, with, need, gap_at};
+ghost use Rattle.text.specs.Formulas.{named, operator_at, name_at, open_at, close_at, prop_at, formula_at};
+ghost use Rattle.text.specs.Reads.{beside, beside_by, with};
 
 use super::Reader;
 use crate::fault::ReadFault;
@@ -12,7 +12,9 @@ use engine::operator::Operator;
 use sheet::kinds::Kind;
 use sheet::row::Row;
 
-impl<'a> Reader<'a> {
+// Numbers are narrowed by `as`: each is known to fit, and `try_from` would have an error that cannot come.
+// Each part by `let .. else`, as in `reader.rt`.
+impl Reader<'_> {
     /// Takes the name that the table has for a kind.
     fn listed(&mut self, kind: Kind) -> Result<Kind, ReadFault>
         ensures { beside_by number_of result self.new.rest.now ≡ named (number_of kind) self.old.rest.now }
@@ -28,15 +30,13 @@ impl<'a> Reader<'a> {
         ensures some { beside_by (λ o. number_of (E o)) result self.new.rest.now ≡ operator_at 6 self.old.rest.now }
         ensures every { beside_by (λ o. number_of (A o)) result self.new.rest.now ≡ operator_at 11 self.old.rest.now }
     {
-        let Some(letter) = self.peek() else {
-            return Err(self.unfit());
-        };
-        let operator = match letter as char {
-            'X' => Operator::Next,
-            'F' => Operator::Finally,
-            'G' => Operator::Globally,
-            'U' => Operator::Until,
-            'W' => Operator::Weak,
+        // By letter, not by the table's names: a form fault stands at the first byte that does not fit.
+        let operator = match self.peek().map(char::from) {
+            Some('X') => Operator::Next,
+            Some('F') => Operator::Finally,
+            Some('G') => Operator::Globally,
+            Some('U') => Operator::Until,
+            Some('W') => Operator::Weak,
             _ => return Err(self.unfit()),
         };
         self.skip();
@@ -64,7 +64,7 @@ impl<'a> Reader<'a> {
         }
     }
 
-    /// Takes the opening bracket of a formula in which `left` more may be open at once.
+    /// Takes the opening bracket of a formula in which `left` brackets may be open at once, this one among them.
     fn open(&mut self, rows: &ArrayVec<Row, 32>, left: u8) -> Result<(), ReadFault>
         requires { left ≤ 16 }
         ensures reads { beside result self.new.rest.now ≡ open_at left rows.now.items self.old.rest.now }
@@ -73,30 +73,24 @@ impl<'a> Reader<'a> {
         let Some(b'(') = self.peek() else {
             return Err(self.unfit());
         };
-        if left == 0 || rows.len() + (16 - left) as usize >= 32 {
+        if left == 0 || rows.len() + usize::from(16 - left) >= 32 {
             return Err(ReadFault::Many(self.rest.len()));
         }
         self.skip();
         Ok(())
     }
 
-    /// Takes the closing bracket of a formula, adds the row of this kind and these operands, and gives the row's number.
-    fn close(
-        &mut self,
-        rows: &mut ArrayVec<Row, 32>,
-        kind: Kind,
-        a: u8,
-        b: u8,
-    ) -> Result<u8, ReadFault>
+    /// Takes the closing bracket of a formula, adds the row, and gives its number.
+    fn close(&mut self, rows: &mut ArrayVec<Row, 32>, row: Row) -> Result<u8, ReadFault>
         requires { length rows.old.items < 32 }
-        ensures reads { with result rows.new.items self.new.rest.now ≡ close_at rows.old.items (row_for (number_of kind) a b) self.old.rest.now }
+        ensures reads { with result rows.new.items self.new.rest.now ≡ close_at rows.old.items row self.old.rest.now }
         ensures last { IfOk result (λ n. (n ≡ length rows.new.items - 1) × (length rows.new.items ≡ length rows.old.items + 1)) }
     {
         let Some(()) = self.word(b")") else {
             return Err(self.unfit());
         };
         let number = rows.len() as u8;
-        rows.push(Row::of(kind, a, b));
+        rows.push(row);
         Ok(number)
     }
 
@@ -109,7 +103,7 @@ impl<'a> Reader<'a> {
         let Some(i) = self.numeral() else {
             return Err(self.unfit());
         };
-        self.close(rows, Kind::Prop, i.min(255) as u8, 0)
+        self.close(rows, Row::of(Kind::Prop, i.min(255) as u8, 0))
     }
 
     /// Takes a formula in which `left` brackets may be open at once, adds its rows, and gives the number of its own.
@@ -129,17 +123,17 @@ impl<'a> Reader<'a> {
         let Some(()) = self.gap() else {
             return Err(self.unfit());
         };
-        if let Kind::Prop = kind {
+        if kind == Kind::Prop {
             return self.prop(rows);
         }
         let a = self.formula(rows, left - 1)?;
         if !kind.is_binary() {
-            return self.close(rows, kind, a, 0);
+            return self.close(rows, Row::of(kind, a, 0));
         }
         let Some(()) = self.gap() else {
             return Err(self.unfit());
         };
         let b = self.formula(rows, left - 1)?;
-        self.close(rows, kind, a, b)
+        self.close(rows, Row::of(kind, a, b))
     }
 }

@@ -1,7 +1,7 @@
 //! Lines.
-ghost use Rattle.std.specs.Prelude.{◌≡◌, ℕ, ◌+◌, ◌<◌, ◌≤◌, false, [], ◌∷◌, length, IfOk, codes, OnOk, Ok, Err, if◌then◌else◌, nat_le};
-ghost use Rattle.text.specs.Lines.{end_at, head_at, numbers_at, scale_at, source_at, step_at, holds_at, ask_at, rest_at, line_at, lines_at, with_steps, with_holdings, count, spare};
-ghost use Rattle.text.specs.Reads.{beside, with, within, and_then};
+ghost use Rattle.std.specs.Prelude.{◌≡◌, ◌+◌, ◌<◌, false, length, IfOk, OnOk, Ok, Err, if◌then◌else◌, nat_le};
+ghost use Rattle.text.specs.Lines.{end_at, head_at, numbers_at, scale_at, source_at, step_at, holds_at, ask_at, rest_at, line_at, lines_at, nothing, spare};
+ghost use Rattle.text.specs.Reads.{beside, beside_by, with, within};
 ghost use Rattle.text.specs.Scripts.{said_in};
 ghost use Rattle.text.specs.declared.fault.ReadFault.TheVariants.{Many};
 ghost use Rattle.text.specs.declared.script.Source.TheVariants.{Table as OfTable};
@@ -23,7 +23,9 @@ fn room<T, const N: usize>(list: &ArrayVec<T, N>, place: usize) -> Result<(), Re
     Ok(())
 }
 
-impl<'a> Reader<'a> {
+// Numbers are narrowed by `as`: each is known to fit, and `try_from` would have an error that cannot come.
+// Each part by `let .. else`, as in `reader.rt`.
+impl Reader<'_> {
     /// Takes the closing bracket of a line and the line's end.
     fn end(&mut self) -> Result<(), ReadFault>
         ensures { beside result self.new.rest.now ≡ end_at self.old.rest.now }
@@ -84,7 +86,7 @@ impl<'a> Reader<'a> {
         let Some(()) = self.word(b"(") else {
             return Err(self.unfit());
         };
-        if let Some(b't') = self.peek() {
+        if self.peek() == Some(b't') {
             self.head(b"table")?;
             let (n, p) = self.pair(1..513, 0..65)?;
             return Ok(Source::Table(n, p as u8));
@@ -94,6 +96,7 @@ impl<'a> Reader<'a> {
         Ok(Source::Pool(k as u8, g as u8))
     }
 
+    // `step` and `holds` stay two: one over both would take word, list, ranges and a closure that makes the record.
     /// Takes a step line of a table with `n` states, after its opening bracket, which is at `place`, and keeps the step.
     fn step(
         &mut self,
@@ -124,7 +127,7 @@ impl<'a> Reader<'a> {
     {
         self.head(b"holds")?;
         room(holdings, place)?;
-        let (prop, state) = self.pair(0..props as u16, 0..n)?;
+        let (prop, state) = self.pair(0..u16::from(props), 0..n)?;
         holdings.push(Holding {
             prop: prop as u8,
             state,
@@ -132,6 +135,8 @@ impl<'a> Reader<'a> {
         Ok(())
     }
 
+    // `ask`, `of_table` and `line` each say that one line fewer can follow: the loop over lines ends by it. The bracket's
+    // place goes with each, since a list that is full is found only after word and gap.
     /// Takes an ask line, and keeps the ask and the rows of its formula.
     fn ask(&mut self, body: &mut Body, place: usize) -> Result<(), ReadFault>
         ensures reads { with result (said_in body.new) self.new.rest.now ≡ ask_at place (said_in body.old) self.old.rest.now }
@@ -185,13 +190,13 @@ impl<'a> Reader<'a> {
     }
 
     /// Takes the lines after the model's, to the end of the text.
-    pub(crate) fn lines(&mut self, source: Source, body: &mut Body) -> Result<(), ReadFault>
-        requires { count (said_in body.old) ≡ 0 }
-        ensures { with result (said_in body.new) self.new.rest.now ≡ lines_at source 2057 (said_in body.old) self.old.rest.now }
+    pub(crate) fn lines(&mut self, source: Source) -> Result<Body, ReadFault>
+        ensures { beside_by said_in result self.new.rest.now ≡ lines_at source 2057 nothing self.old.rest.now }
     {
-        while let Some(_) = self.peek() {
-            self.line(source, body)?;
+        let mut body = Body::default();
+        while !self.rest.is_empty() {
+            self.line(source, &mut body)?;
         }
-        Ok(())
+        Ok(body)
     }
 }

@@ -6,4 +6,4 @@ use Rattle.engine.proofs.least.least.Goals as goal
 pub returns : goal.returns
 returns g c =
     c.fill.ensures (step_f (g.M.Model.meaning c.args.model.now) c.args.some c.args.s1.now c.args.s2.now)
-    (F_monotone _ _ _ _) (λ k x y b l e. search of_calls)
+    (F_monotone _ _ _ _) (λ k x y b e. search of_calls)

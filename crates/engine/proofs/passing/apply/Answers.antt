@@ -14,12 +14,12 @@ said_no n P Q b e h s inside =
 
 pub returns : goal.returns
 returns g c =
-    let n = c.states.result in
+    let n = c.states-n.result in
     let next = c.such_that-next.result in
     let base = c.args.base.now in
     record {
       each = λ s q. let h = c.such_that-next.ensures s q in search rules;
       still = λ e s q. said_no n (λ i. members next i ≡ members base i) _ c.any-changed.result e
           (cases_from_any _ _ _ (λ _. Unit {0}) (λ i. members next i ≡ members base i) c.any-changed.ensures.ran (YieldsList-from_range 0 n n refl (omega arith)) (λ x q k. tt) (λ x q k. search (rules, tests)))
-          s (omega (arith, c.states.ensures));
+          s (omega (arith, c.states-n.ensures));
     }

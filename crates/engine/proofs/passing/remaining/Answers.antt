@@ -6,4 +6,4 @@ use Rattle.engine.proofs.passing.remaining.Goals as goal
 pub returns : goal.returns
 returns g c =
     c.fill.ensures (remained (g.M.Model.meaning c.args.model.now) c.args.some c.args.right.now c.args.pass.now c.args.left.now)
-    (remained_monotone _ _ _ _ _) (λ k x y b l e. search of_calls)
+    (remained_monotone _ _ _ _ _) (λ k x y b e. search of_calls)

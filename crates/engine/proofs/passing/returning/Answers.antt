@@ -3,26 +3,26 @@ use Rattle.engine.proofs.Growing.{everywhere}
 use Rattle.engine.proofs.Returns.{outer_none, outer_more, outer_last, outer_end}
 use Rattle.engine.proofs.passing.returning.Goals as goal
 
-pub overflow_add-j-end : goal.overflow_add-j-end
-overflow_add-j-end g c = omega (arith, c.states-n.ensures, (g.M.Model.lawful c.args.model.now).few_states)
+pub overflow_add-end : goal.overflow_add-end
+overflow_add-end g c = omega (arith, c.states-end.ensures, (g.M.Model.lawful c.args.model.now).few_states)
 
-pub loop-j-init : goal.loop-j-init
-loop-j-init g c =
+pub loop-init : goal.loop-init
+loop-init g c =
     let few = (g.M.Model.lawful c.args.model.now).few_states in
     outer_none (g.M.Model.meaning c.args.model.now) c.args.some c.args.right.now c.args.pass.now c.args.left.now c.of-base.result c.of-joined.result
     (λ s q. everywhere c.of-base.result.at true false _ s few c.of-base.ensures q) (λ s q. everywhere c.of-joined.result.at 0 0 _ s few c.of-joined.ensures q)
 
 pub returns-then-not-apply : goal.returns-then-not-apply
 returns-then-not-apply g c =
-    outer_last (g.M.Model.meaning c.args.model.now) c.args.some c.args.right.now c.args.pass.now c.args.left.now c.loop-j.base c.apply.new.base c.loop-j.joined c.loop-j.j c.loop-j.invariant
-    (rw c.states-n.ensures at (rw c.if-not-apply.true at c.apply.ensures)) (omega arith)
+    outer_last (g.M.Model.meaning c.args.model.now) c.args.some c.args.right.now c.args.pass.now c.args.left.now c.loop.base c.apply.new.base c.loop.joined c.loop.counter c.loop.invariant
+    (rw c.if-not-apply.true at c.apply.ensures) (omega arith)
 
-pub loop-j-preserved : goal.loop-j-preserved
-loop-j-preserved g c =
+pub loop-preserved : goal.loop-preserved
+loop-preserved g c =
     rw add-one
-    (outer_more (g.M.Model.meaning c.args.model.now) c.args.some c.args.right.now c.args.pass.now c.args.left.now c.loop-j.base c.apply.new.base c.loop-j.joined c.loop-j.j c.loop-j.invariant
-    c.apply.result (rw c.states-n.ensures at c.apply.ensures) c.least-joined.result c.least-joined.ensures)
+    (outer_more (g.M.Model.meaning c.args.model.now) c.args.some c.args.right.now c.args.pass.now c.args.left.now c.loop.base c.apply.new.base c.loop.joined c.loop.counter c.loop.invariant
+    c.apply.result c.apply.ensures c.least-joined.result c.least-joined.ensures)
 
 pub returns : goal.returns
 returns g c =
-    outer_end (g.M.Model.meaning c.args.model.now) c.args.some c.args.right.now c.args.pass.now c.args.left.now c.loop-j.base c.loop-j.joined c.loop-j.j (omega arith) c.loop-j.invariant
+    outer_end (g.M.Model.meaning c.args.model.now) c.args.some c.args.right.now c.args.pass.now c.args.left.now c.loop.base c.loop.joined c.loop.counter (omega arith) c.loop.invariant

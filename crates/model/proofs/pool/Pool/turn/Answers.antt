@@ -1,7 +1,9 @@
-use Rattle.std.proofs.Common.{◌≡◌, ℕ, ◌+◌, ◌-◌, cond, sym, ap, ◌∙◌, arith}
+use Rattle.std.proofs.Common.{◌≡◌, ℕ, ◌+◌, ◌-◌, cond, sym, refl, ap, ◌∙◌, subst, arith}
 use Rattle.std.proofs.lemmas.Bool.{and_from, eq-eqb, both_ways}
+use Rattle.model.specs.Meaning.{Least}
 use Rattle.model.specs.Pools.{digit, share, holder}
 use Rattle.model.specs.declared.pool.Thread.{Thread}
+use Rattle.model.proofs.Least.{least_only}
 use Rattle.model.proofs.Pooled.{few, moves_to, leads_only, leads_there}
 use Rattle.model.proofs.pool.Pool.turn.Goals as goal
 
@@ -15,17 +17,12 @@ with_digit-u-requires c =
     let f = few c.args.self.now.buffers c.requires.1 in
     (omega arith, omega arith, m.1)
 
-pub returns-then-u-t : goal.returns-then-u-t
-returns-then-u-t c =
-    λ u h e. let same = leads_only c.args.self.now.buffers c.args.self.now.guard c.args.x c.args.i c.args.s c.moved-e.result
-    (turned _ _ _ _ c.digit_of.ensures c.moved-e.ensures) c.with_digit-u.result c.requires.0 c.requires.2 c.with_digit-u.ensures u e in omega arith
-
-pub returns-else-u-t : goal.returns-else-u-t
-returns-else-u-t c =
-    let t = turned _ _ _ _ c.digit_of.ensures c.moved-e.ensures in (
-      c.if-u-t.false,
-      leads_there c.args.self.now.buffers c.args.self.now.guard c.args.x c.args.i c.args.s c.moved-e.result
-          t c.with_digit-u.result c.requires.0 c.requires.2 c.with_digit-u.ensures (λ g e. let ok = c.if-forbids.ensures in both_ways _ (sym ok) (and_from _ _ (eq-eqb _ _ g) (eq-eqb _ _ e))),
-      λ v h less e. let same = leads_only c.args.self.now.buffers c.args.self.now.guard c.args.x c.args.i c.args.s c.moved-e.result
-          t c.with_digit-u.result c.requires.0 c.requires.2 c.with_digit-u.ensures v e in omega arith,
-    )
+pub returns : goal.returns
+returns c =
+    let k = c.args.self.now.buffers in let g = c.args.self.now.guard in
+    let t = turned _ _ _ _ c.digit_of.ensures c.moved-e.ensures in
+    subst (Least _ c.args.t) (sym c.then_some.ensures)
+    (least_only _ c.args.t c.with_digit-u.result _ refl
+    (leads_there k g c.args.x c.args.i c.args.s c.moved-e.result t c.with_digit-u.result c.requires.0 c.requires.2 c.with_digit-u.ensures
+    (λ guarded e. both_ways _ (sym c.if-forbids.ensures) (and_from _ _ (eq-eqb _ _ guarded) (eq-eqb _ _ e))))
+    (λ v p. leads_only k g c.args.x c.args.i c.args.s c.moved-e.result t c.with_digit-u.result c.requires.0 c.requires.2 c.with_digit-u.ensures v p))

@@ -18,20 +18,20 @@ returns g c =
     let ok = c.in_ok-check.ensures.exact in
     let ready = c.in_ok-check.ensures.known.0 in
     let worked = moved (λ t r. (k : ℕ) → k < t.states → get_or c.work_out-degrees.result.at k 0 ≡ degrees_of m d t r k) _ _ _ _ c.args.rows.now c.in_ok-check.ensures.known.1 (c.work_out-degrees.ensures c.args.rows.now) in
-    let bytes : c.write.new.bytes ≡ written c.args.bytes.now (x.rows * x.states) x.states (degrees_of m d s c.args.row) =
-    c.write.ensures ∙ same-written _ _ x.states _ _ worked in
+    let bytes : c.write.new.bytes ≡ written c.args.bytes.now (x.rows * x.size.states) x.size.states (degrees_of m d s c.args.row) =
+    (rw c.used.ensures at c.write.ensures) ∙ same-written _ _ x.size.states _ _ worked in
     let row = c.args.row in
-    let place : x.rows * x.states + x.states ≤ length c.args.bytes.now = omega (arith, ready.room.bytes, suc-mul x.rows x.states) in
-    let reads : (k : ℕ) → k < x.states → get_or c.write.new.bytes (x.rows * x.states + k) 0 ≡ degrees_of m d s row k =
-    λ k h. ap (λ (bs : List ℕ). get_or bs (x.rows * x.states + k) 0) bytes ∙ read_back c.args.bytes.now (x.rows * x.states) x.states (degrees_of m d s row) k h place in
+    let place : x.rows * x.size.states + x.size.states ≤ length c.args.bytes.now = omega (arith, ready.room.bytes, suc-mul x.rows x.size.states) in
+    let reads : (k : ℕ) → k < x.size.states → get_or c.write.new.bytes (x.rows * x.size.states + k) 0 ≡ degrees_of m d s row k =
+    λ k h. ap (λ (bs : List ℕ). get_or bs (x.rows * x.size.states + k) 0) bytes ∙ read_back c.args.bytes.now (x.rows * x.size.states) x.size.states (degrees_of m d s row) k h place in
     record {
-      answers = goes _ _ _ _ ok refl;
+      answers = goes ok refl;
       sets = λ n q l k some most here.
           let is : x.rows ≡ n = ok_same x.rows n q in
-          let at : get_or c.write.new.bytes (n * x.states + k) 0 ≡ degrees_of m d s row k =
-          subst (λ n. get_or c.write.new.bytes (n * x.states + k) 0 ≡ degrees_of m d s row k) is (reads k (subst (λ N. k < N) ready.same_states here)) in
+          let at : get_or c.write.new.bytes (n * x.size.states + k) 0 ≡ degrees_of m d s row k =
+          subst (λ n. get_or c.write.new.bytes (n * x.size.states + k) 0 ≡ degrees_of m d s row k) is (reads k (subst (λ N. k < N) ready.fits.states here)) in
           subst (λ b. (l ≤ b) ↔ (k ∈ reaches m d s row l)) (sym at)
           (reaches_where_sat m (g.M.Model.lawful c.args.model.now) ready.total d (g.S.Scale.lawful c.args.scale.now) (kind_of row.kind row.a) (first_of s row) (second_of s row) ready.first ready.second l k some most here);
-      leaves = accepted _ _ s (with_row m d s row) _ ok
-          (ap (λ (bs : List ℕ). record { states = x.states; props = x.props; levels = x.levels; count = x.rows + 1; records = set c.args.rows.now x.rows row; degrees = bs }) bytes);
+      leaves = rw c.from.ensures (accepted _ _ s (with_row m d s row) _ ok
+          (ap (λ (bs : List ℕ). record { states = x.size.states; props = x.size.props; levels = x.levels; count = x.rows + 1; records = set c.args.rows.now x.rows row; degrees = bs }) bytes));
     }

@@ -10,11 +10,11 @@ loop-level-init g c rs s h = let e = c.by-degrees.ensures.ruled s h (omega arith
 pub loop-level-preserved : goal.loop-level-preserved
 loop-level-preserved g c rs s h =
     last_level c.loop-level.level (c.loop-level.level + 1 - 1) _ _ (omega arith)
-    (next_level c.loop-level.level _ _ _ _ (omega arith) (c.level_set-set.ensures rs s (omega (arith, c.requires.sizes.0))) (c.loop-level.invariant rs s h) (c.raised-degrees.ensures s h))
+    (next_level c.loop-level.level _ _ _ _ (omega arith) (c.level_set-set.ensures rs s (omega (arith, c.requires.sizes.states))) (c.loop-level.invariant rs s h) (c.raised-degrees.ensures s h))
 
 pub returns-2 : goal.returns-2
 returns-2 g c rs s h =
     let x = c.args.self.now in
     last_level c.loop-level.level x.lent.sheet.now.levels _ _ (omega arith)
-    (next_level c.loop-level.level _ _ _ _ (omega arith) (c.level_set-set.ensures rs s (omega (arith, c.requires.sizes.0))) (c.loop-level.invariant rs s h) (c.raised-degrees.ensures s h))
-    ∙ path-degree _ _ _ _ _ x.lent.sheet.now.levels s _ _ (kind_of-number_of x.kind x.a ∙ c.requires.path) c.requires.sizes.1
+    (next_level c.loop-level.level _ _ _ _ (omega arith) (c.level_set-set.ensures rs s (omega (arith, c.requires.sizes.states))) (c.loop-level.invariant rs s h) (c.raised-degrees.ensures s h))
+    ∙ path-degree _ _ _ _ _ x.lent.sheet.now.levels s _ _ (kind_of-number_of x.kind x.a ∙ c.requires.path) c.requires.sizes.levels

@@ -8,4 +8,4 @@ use Rattle.sheet.proofs.sheet.lent.Known.by_levels.Given as goal
 -- the levels passed are judged
 abbrev pub invariant-loop-level : goal.invariant-loop-level
 invariant-loop-level g l =
-    (rs : List Row) (s : ℕ) → s < l.self.lent.sheet.now.states → get_or l.degrees.at s 0 ≡ highest (l.level - 1) (λ k. reaches (g.M.Model.meaning l.model) (g.S.Scale.grades l.scale) (state_of l.self.lent rs) (row_of l.self) k s)
+    (rs : List Row) (s : ℕ) → s < l.self.lent.sheet.now.size.states → get_or l.degrees.at s 0 ≡ highest (l.level - 1) (λ k. reaches (g.M.Model.meaning l.model) (g.S.Scale.grades l.scale) (state_of l.self.lent rs) (row_of l.self) k s)

@@ -17,10 +17,10 @@ returns g c rs =
     let path = path_meant x.kind x.a c.in_ok-some.some c.in_ok-some.operator c.in_ok-some.ensures in
     let first : eqb (number_of x.kind) 1 ≡ false = not_prop x.kind x.a _ _ path in
     seeks_by (g.M.Model.meaning c.args.model.now) c.args.state c.args.out.now c.show.new.out
-    (quantifier c.in_ok-some.some) (asked c.in_ok-some.operator) c.in_ok-reading.reading (members c.reaching-left.result) (members c.second_reaching-right.result) c.show.result
+    (quantifier c.in_ok-some.some) (asked c.in_ok-some.operator) c.unwrap-reading.result (members c.reaching-left.result) (members c.second_reaching-right.result) c.show.result
     (g.S.Scale.grades c.args.scale.now) (state_of x.lent rs) (row_of x) c.args.level
     (sym (kind_of-number_of x.kind x.a ∙ path))
-    c.in_ok-reading.ensures
+    (sym c.unwrap-reading.ensures ∙ c.reading.ensures)
     (fun_ext (λ s. c.reaching-left.ensures rs s ∙ ap (λ t. reach (cond t unused (given (state_of x.lent rs) x.a)) c.args.level s) (sym first)))
     (fun_ext (λ s. c.second_reaching-right.ensures rs s))
     c.show.ensures

@@ -8,7 +8,7 @@ use Rattle.sheet.proofs.sheet.lent.Lent.degrees_only.Goals as goal
 pub returns : goal.returns
 returns c rs =
     let bytes = c.args.self.now.bytes.now in
-    let n = c.args.self.now.sheet.now.states in
+    let n = c.args.self.now.sheet.now.size.states in
     let start = c.args.row * n in
     let top = c.args.self.now.sheet.now.levels in
     judged bytes start n top c.all.result (omega (arith, row_below c.args.row c.args.self.now.sheet.now.rows n c.requires, c.args.self.now.long))

@@ -1,5 +1,5 @@
 use Rattle.std.proofs.Common.{rules}
-use Rattle.engine.proofs.tasks.choosing.outside.Goals as goal
+use Rattle.engine.proofs.sets.StateSet.outside.Goals as goal
 
 pub returns : goal.returns
 returns g c = λ s q. let h = c.such_that.ensures s q in search rules

@@ -1,5 +1,0 @@
-use Rattle.std.proofs.Common.{suc, ◌∙◌, arith}
-use Rattle.engine.proofs.satisfy.eventually.Goals as goal
-
-pub returns : goal.returns
-returns g c = λ s q. c.joined.ensures s q ∙ c.settling.ensures s q (suc (g.M.Model.meaning c.args.model.now).states) (omega arith)

@@ -43,7 +43,10 @@ def functions():
             if not re.search(r"(\{\}|;)$", lines[i]):
                 while j < len(lines) and lines[j] != indent + "}":
                     j += 1
-            params = re.findall(r"(\w+): ([^,()\n]*(?:\([^)]*\))?[^,()\n]*)", re.sub(r"(?m)^ *(requires|ensures).*$", "", head).split("->")[0].split("(", 1)[-1])
+            signature = re.sub(r"(?m)^ *(requires|ensures).*$", "", head)
+            signature = re.sub(r"^.*?\bfn \w+(<.*?>(?=\())?\(", "", signature, count=1, flags=re.S)
+            params = re.findall(r"(\w+): ([^,()\n]*(?:\([^)]*\))?[^,()\n]*)", signature)
+            params = [(x, re.sub(r"\bmut |'\w+ ?|\) ->.*", "", t)) for x, t in params]
             requires = re.findall(r"(?m)^ *requires\b.*?\{ (.*) \}$", head)
             yield f, start + 1, m.group(2), params, requires, re.findall(r"\w+|[^\w\s]", "\n".join(lines[i:j + 1]))
             i = j + 1

@@ -30,47 +30,47 @@ use Rattle.listing.specs.Places.{place_of}
 use Rattle.listing.specs.Runs.{then, told_at, enter_all, ask_one, ask_from, ask_all, meaning_of, grades_of, answers_of}
 use Rattle.listing.specs.Writing.{fault_line}
 
--- the sheet refuses with numbers up to 13
+-- the sheet refuses with numbers from 1 to 13
 
-abbrev UpTo13 : {X E : Type 0} → (E → ℕ) → Result X E → Type 0
-UpTo13 number (Ok x) = Unit {0}
-UpTo13 number (Err e) = number e ≤ 13
+abbrev pub From1To13 : {X E : Type 0} → (E → ℕ) → Result X E → Type 0
+From1To13 number (Ok x) = Unit {0}
+From1To13 number (Err e) = (1 ≤ number e) × (number e ≤ 13)
 
-up_to_then : {X Y E : Type 0} (number : E → ℕ) (a : Result X E) (f : X → Result Y E) → UpTo13 number a → ((x : X) → UpTo13 number (f x)) → UpTo13 number (then a f)
-up_to_then number (Ok x) f h k = k x
-up_to_then number (Err e) f h k = h
+from_1_then : {X Y E : Type 0} (number : E → ℕ) (a : Result X E) (f : X → Result Y E) → From1To13 number a → ((x : X) → From1To13 number (f x)) → From1To13 number (then a f)
+from_1_then number (Ok x) f h k = k x
+from_1_then number (Err e) f h k = h
 
 abbrev Low : {X : Type 0} → Result X Refusal → Type 0
-Low = UpTo13 (λ e. e.number)
+Low = From1To13 (λ e. e.number)
 
-low_if : (b : Bool) (e : Refusal) → e.number ≤ 13 → Low (refuse_if b e)
-low_if true e h = h
-low_if false e h = tt
+low_if : (b : Bool) (e : Refusal) → 1 ≤ e.number → e.number ≤ 13 → Low (refuse_if b e)
+low_if true e l h = (l, h)
+low_if false e l h = tt
 
 low_and : {X : Type 0} (a : Result Unit Refusal) (r : Result X Refusal) → Low a → Low r → Low (and_then a r)
 low_and (Ok u) r h k = k
 low_and (Err e) r h k = h
 
 -- a check with the number n, and what follows it
-low_check : {X : Type 0} (b : Bool) (n : ℕ) (r : Result X Refusal) → n ≤ 13 → Low r → Low (and_then (refuse_if b (refusal n 0)) r)
-low_check b n r h k = low_and (refuse_if b (refusal n 0)) r (low_if b (refusal n 0) h) k
+low_check : {X : Type 0} (b : Bool) (n : ℕ) (r : Result X Refusal) → 1 ≤ n → n ≤ 13 → Low r → Low (and_then (refuse_if b (refusal n 0)) r)
+low_check b n r l h k = low_and (refuse_if b (refusal n 0)) r (low_if b (refusal n 0) l h) k
 
 low_dead : (o : Option ℕ) → Low (refused_at o)
 low_dead None = tt
-low_dead (Some s) = omega arith
+low_dead (Some s) = (omega arith, omega arith)
 
 low_walk : (m : Meaning) → Low (walkability m)
 low_walk m = go (eqb m.states 0)
   where
     go : (b : Bool) → Low (cond b (Err (refusal 1 0)) (refused_at (dead_end m)))
-    go true = omega arith
+    go true = (omega arith, omega arith)
     go false = low_dead (dead_end m)
 
 low_formed : (s : State) (x : Row) → Low (formed s x)
 low_formed s x =
-    low_check (ltb x.kind 1 || ltb 15 x.kind) 5 _ (omega arith)
-    (low_check (eqb x.kind 1 && leb s.props x.a) 6 _ (omega arith)
-    (low_if (not (eqb x.kind 1) && leb s.count x.a || cond (eqb (operands_of x.kind) 2) (leb s.count x.b) (not (eqb x.b 0))) (refusal 7 0) (omega arith)))
+    low_check (ltb x.kind 1 || ltb 15 x.kind) 5 _ (omega arith) (omega arith)
+    (low_check (eqb x.kind 1 && leb s.props x.a) 6 _ (omega arith) (omega arith)
+    (low_if (not (eqb x.kind 1) && leb s.count x.a || cond (eqb (operands_of x.kind) 2) (leb s.count x.b) (not (eqb x.b 0))) (refusal 7 0) (omega arith) (omega arith)))
 
 module _ (m : Meaning) (g : Grades) where
   low_open : (rs : List Row) (bs : List ℕ) → Low (open_answer m g rs bs)
@@ -78,25 +78,25 @@ module _ (m : Meaning) (g : Grades) where
 
   low_enter : (s : State) (x : Row) → Low (enter_answer m g s x)
   low_enter s x = low_and (entering m g s x) _
-      (low_and (fitting s m g) _ (low_if _ (refusal 3 0) (omega arith)) (low_and (walkability m) _ (low_walk m) (low_and (roomy s) _ (low_if _ (refusal 4 0) (omega arith)) (low_and (formed s x) _ (low_formed s x) (low_if _ (refusal 9 0) (omega arith))))))
+      (low_and (fitting s m g) _ (low_if _ (refusal 3 0) (omega arith) (omega arith)) (low_and (walkability m) _ (low_walk m) (low_and (roomy s) _ (low_if _ (refusal 4 0) (omega arith) (omega arith)) (low_and (formed s x) _ (low_formed s x) (low_if _ (refusal 9 0) (omega arith) (omega arith))))))
       tt
 
   low_degree : (s : State) (r k : ℕ) → Low (degree_answer s r k)
   low_degree s r k =
-      low_check (leb s.count r || leb s.states k) 8 _ (omega arith)
-      (low_check (ltb (length s.degrees) (s.count * s.states)) 4 _ (omega arith) (low_check (ltb s.levels (byte_at s r k)) 9 _ (omega arith) tt))
+      low_check (leb s.count r || leb s.states k) 8 _ (omega arith) (omega arith)
+      (low_check (ltb (length s.degrees) (s.count * s.states)) 4 _ (omega arith) (omega arith) (low_check (ltb s.levels (byte_at s r k)) 9 _ (omega arith) (omega arith) tt))
 
   low_all : (s : State) (xs : List Row) → Low (enter_all m g s xs)
   low_all s [] = tt
-  low_all s (x ∷ xs) = up_to_then _ (enter_answer m g s x) _ (low_enter s x) (λ _. low_all (enter_leaves m g s x) xs)
+  low_all s (x ∷ xs) = from_1_then _ (enter_answer m g s x) _ (low_enter s x) (λ _. low_all (enter_leaves m g s x) xs)
 
   low_ask : (s : State) (xs : List Row) (a : Ask) → Low (ask_one m g s xs a)
-  low_ask s xs a = up_to_then _ (enter_all m g s xs) _ (low_all s xs) (λ t. up_to_then _ (degree_answer t a.row a.state) _ (low_degree t a.row a.state) (λ _. tt))
+  low_ask s xs a = from_1_then _ (enter_all m g s xs) _ (low_all s xs) (λ t. from_1_then _ (degree_answer t a.row a.state) _ (low_degree t a.row a.state) (λ _. tt))
 
 -- and so does a run
 
-abbrev Little : {X : Type 0} → Result X Telling → Type 0
-Little = UpTo13 (λ t. t.number)
+abbrev pub Little : {X : Type 0} → Result X Telling → Type 0
+Little = From1To13 (λ t. t.number)
 
 little_at : {X : Type 0} (line : ℕ) (r : Result X Refusal) → Low r → Little (told_at line r)
 little_at line (Ok x) h = tt
@@ -106,29 +106,29 @@ module _ (m : Meaning) (g : Grades) where
   little_from : (rows : List Row) (s : State) (entered line : ℕ) (done : List Answer) (asks : List Ask) → Little (ask_from m g rows s entered line done asks)
   little_from rows s entered line done [] = tt
   little_from rows s entered line done (a ∷ asks) =
-      up_to_then _ (told_at line (ask_one m g s (between entered (a.row + 1) rows) a)) _ (little_at line (ask_one m g s (between entered (a.row + 1) rows) a) (low_ask m g s _ a))
+      from_1_then _ (told_at line (ask_one m g s (between entered (a.row + 1) rows) a)) _ (little_at line (ask_one m g s (between entered (a.row + 1) rows) a) (low_ask m g s _ a))
       (λ p. little_from rows p.0 (a.row + 1) (line + 1) (done ++ (p.1 ∷ [])) asks)
 
-  little_run : (h : Said) → Little (ask_all m g h)
+  pub little_run : (h : Said) → Little (ask_all m g h)
   little_run h =
       let open' = open_answer m g (replicate 32 (row_for 0 0 0)) (replicate 16384 0) in
-      up_to_then _ (told_at 2 open') _ (little_at 2 open' (low_open m g (replicate 32 (row_for 0 0 0)) (replicate 16384 0))) (λ s. little_from h.rows s 0 _ [] h.asks)
+      from_1_then _ (told_at 2 open') _ (little_at 2 open' (low_open m g (replicate 32 (row_for 0 0 0)) (replicate 16384 0))) (λ s. little_from h.rows s 0 _ [] h.asks)
 
-abbrev on_scale : Told → List Answer → Result Given Telling
+abbrev pub on_scale : Told → List Answer → Result Given Telling
 on_scale t l = Ok (record { levels = t.levels; list = l })
 
 low_number : (r : Result Given Telling) → Little r → (lines_of r).1 ≤ 13
 low_number (Ok a) h = omega arith
-low_number (Err t) h = h
+low_number (Err t) h = h.1
 
 number_of : (t : Told) → (lines_of (then (answers_of t) (on_scale t))).1 ≤ 13
 number_of t = low_number (then (answers_of t) (on_scale t))
-    (up_to_then _ (answers_of t) (on_scale t) (little_run (meaning_of t.source t.said) (grades_of t.levels) t.said) (λ _. tt))
+    (from_1_then _ (answers_of t) (on_scale t) (little_run (meaning_of t.source t.said) (grades_of t.levels) t.said) (λ _. tt))
 
 -- the law, by what the reader answers
 
 module _ (text before : List ℕ) where
-  abbrev out : Result Told ReadFault → List ℕ × ℕ
+  abbrev pub out : Result Told ReadFault → List ℕ × ℕ
   out r = lines_of (then (script_of text r) (λ t. then (answers_of t) (on_scale t)))
 
   abbrev Says : List ℕ × ℕ → Type 0
@@ -165,10 +165,10 @@ module _ (text before : List ℕ) where
   by_answer (Err (Many k)) r = by_fault (Many k) r (omega arith) (omega arith) (λ e. absurd (omega arith))
 
   -- what the call gives where neither length is refused
-  abbrev shown : List ℕ × ℕ → ℕ × ℕ × List ℕ
+  abbrev pub shown : List ℕ × ℕ → ℕ × ℕ × List ℕ
   shown o = (length o.0, o.1, o.0 ++ drop (length o.0) before)
 
-  listing_is : length text ≤ 16384 → 256 ≤ length before → listing text before ≡ shown (out (answer_of (script_at text)))
+  pub listing_is : length text ≤ 16384 → 256 ≤ length before → listing text before ≡ shown (out (answer_of (script_at text)))
   listing_is h k =
       cond-false (ltb (length before) 256) _ _ (le-ltb (length before) 256 k)
       ∙ ap (λ (r : Result Given Telling). shown (lines_of r)) (cond-false (ltb 16384 (length text)) _ _ (le-ltb 16384 (length text) h))

@@ -5,3 +5,4 @@ pub mod Sheets
 pub mod Writing
 pub mod Listings
 pub mod Laws
+pub mod Truths

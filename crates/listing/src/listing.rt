@@ -2,6 +2,7 @@
 ghost use Rattle.std.specs.Prelude.{◌≡◌, ◌≤◌, length};
 ghost use Rattle.listing.specs.Laws.{ListedByLanguage};
 ghost use Rattle.listing.specs.Listings.{given_in, listing, lines_of, number_in};
+ghost use Rattle.listing.specs.Truths.{TrueListing};
 
 use crate::answering::answers;
 use crate::answers::Answers;
@@ -46,6 +47,7 @@ pub fn list(text: &[u8], buffer: &mut [u8]) -> Listed
     ensures within { result.written ≤ length buffer.old }
     ensures exact { (result.written, result.number, buffer.new) ≡ listing text.now buffer.old }
     ensures language { ListedByLanguage text.now buffer.old result.written result.number buffer.new }
+    ensures truth { TrueListing text.now buffer.old result.written result.number buffer.new }
 {
     if buffer.len() < 256 {
         return Listed::of(0, Some(TextFault::Buffer));

@@ -18,7 +18,7 @@ use Rattle.sheet.specs.declared.fault.SheetFault.{SheetFault}
 use Rattle.sheet.proofs.Kept.{kept}
 use Rattle.client.specs.Promise.{never_holds, Broken}
 
-abbrev row : ℕ → ℕ → Row
+abbrev pub row : ℕ → ℕ → Row
 row k x = record { kind = k; a = x; b = 0 }
 
 -- a sheet with a history, whose row n stands for "p never holds"
@@ -30,7 +30,7 @@ pub record Standing (m : Meaning) (g : Grades) (p : ℕ) (s : State) (n : ℕ) :
 
 module _ (m : Meaning) (law : Lawful m) (g : Grades) (orderly : Orderly g) where
   -- a row's number is the count of the rows before it
-  numbered : {s : State} {fs : List Formula} (x : Row) (n : ℕ) → History m g s fs → Ok n ≡ enter_answer m g s x → n ≡ length fs
+  pub numbered : {s : State} {fs : List Formula} (x : Row) (n : ℕ) → History m g s fs → Ok n ≡ enter_answer m g s x → n ≡ length fs
   numbered {s} {fs} x n h a = (accepted m law g s x n a).number ∙ (kept m law g orderly h).count
 
   rows_stand : (p a b c : ℕ) (s0 s1 s2 s3 : State) (rs : List Row) (bs : List ℕ) → Ok s0 ≡ open_answer m g rs bs →

@@ -1,8 +1,10 @@
-//! A client of the sheet: its promise is proved from the laws of the sheet's calls alone.
+//! A client of the sheet: what it promises of its answer is proved from the laws of the sheet's calls alone, and what it refuses
+//! is what they refuse.
 #![tactic(auto)]
 
-ghost use Rattle.std.specs.Prelude.{IfOk};
-ghost use Rattle.client.specs.Promise.{Judged};
+ghost use Rattle.std.specs.Prelude.{◌≡◌, length, IfOk};
+ghost use Rattle.sheet.specs.Over.{outcome};
+ghost use Rattle.client.specs.Promise.{Judged, refused};
 
 use engine::operator::Operator;
 use model::interface::Model;
@@ -21,6 +23,8 @@ pub struct Verdict {
 
 // Model, scale, rows and bytes one by one, as each call of the sheet takes them: the user's form.
 /// How far does proposition `p` never hold on the walks from a state, and which run breaks a level?
+/// Refused are, in this order: a model that cannot be walked, buffers too short for one row, a proposition that is not there,
+/// buffers too short for three rows, and a state that is not there.
 pub fn never_holds<M: Model, S: Scale>(
     model: &M,
     scale: &S,
@@ -31,7 +35,8 @@ pub fn never_holds<M: Model, S: Scale>(
     level: u8,
     out: &mut [u16],
 ) -> Result<Verdict, SheetFault>
-    ensures { IfOk result (λ v. Judged (M.meaning model.now) (S.grades scale.now) p state level out.old out.new v) }
+    ensures judged { IfOk result (λ v. Judged (M.meaning model.now) (S.grades scale.now) p state level out.old out.new v) }
+    ensures refuses { outcome result ≡ refused (M.meaning model.now) (length rows.old) (length bytes.old) p state }
 {
     let mut sheet = Sheet::open(model, scale)?;
     let holds = Row::of(Kind::Prop, p, 0);

@@ -6,8 +6,12 @@ mod engines;
 #[cfg(test)]
 mod models;
 #[cfg(test)]
+mod replays;
+#[cfg(test)]
 mod scales;
 #[cfg(test)]
 mod sheets;
 #[cfg(test)]
 mod tables;
+#[cfg(test)]
+mod walks;

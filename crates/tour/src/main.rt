@@ -2,6 +2,7 @@
 #![tactic(auto)]
 
 mod models;
+mod runs;
 mod scales;
 mod sheets;
 mod show;
@@ -17,5 +18,6 @@ fn main(rt: HostRuntime) -> io::Result<()> {
     scales::both(&rt)?;
     trials::all(&rt)?;
     sheets::tables(&rt)?;
-    sheets::pools(&rt)
+    sheets::pools(&rt)?;
+    runs::all(&rt)
 }

@@ -22,6 +22,7 @@ const AG: Kind = Kind::A(Operator::Globally);
 
 const AW: Kind = Kind::A(Operator::Weak);
 
+/// Prints a refusal.
 fn refused(rt: &HostRuntime, text: &str, fault: SheetFault) -> io::Result<()> {
     println!(rt;
         "  {text}: refused with {}, value {}",
@@ -32,9 +33,9 @@ fn refused(rt: &HostRuntime, text: &str, fault: SheetFault) -> io::Result<()> {
 
 /// A sheet that is open over a model and a scale, with its buffers.
 #[derive(Drop)]
-struct Desk<'a, M, S> {
-    rt: &'a HostRuntime,
-    model: &'a M,
+pub(crate) struct Desk<'a, M, S> {
+    pub(crate) rt: &'a HostRuntime,
+    pub(crate) model: &'a M,
     scale: &'a S,
     sheet: Sheet,
     rows: &'a mut [Row],
@@ -51,11 +52,24 @@ impl<M: Model, S: Scale> Desk<'_, M, S> {
     }
 
     /// Enters one row after another.
-    fn enter_all(&mut self, asked: &[(Row, &str)]) -> io::Result<()> {
+    pub(crate) fn enter_all(&mut self, asked: &[(Row, &str)]) -> io::Result<()> {
         for (row, text) in asked {
             self.enter(*row, text)?;
         }
         Ok(())
+    }
+
+    /// A walk that meets a level of a row, or breaks it.
+    pub(crate) fn walk(
+        &self,
+        row: u8,
+        state: u16,
+        level: u8,
+        out: &mut [u16],
+    ) -> Result<(u16, u16), SheetFault> {
+        self.sheet.walk(
+            self.model, self.scale, self.rows, self.bytes, row, state, level, out,
+        )
     }
 
     /// Prints the degrees of a row that was entered, or the refusal.
@@ -91,7 +105,7 @@ impl<M: Model, S: Scale> Desk<'_, M, S> {
 }
 
 /// Opens a sheet, and then works at its desk, or prints the refusal.
-fn opened<M: Model, S: Scale, F: FnOnce(&mut Desk<M, S>) -> io::Result<()>>(
+pub(crate) fn opened<M: Model, S: Scale, F: FnOnce(&mut Desk<M, S>) -> io::Result<()>>(
     rt: &HostRuntime,
     model: &M,
     scale: &S,

@@ -26,6 +26,10 @@ Broken m g p s l ys xs None = ¬ SomeWalkDoes m g (never_holds p) l s
 pub record Judged (m : Meaning) (g : Grades) (p s l : ℕ) (ys xs : List ℕ) (v : Verdict) : Type 0 where
   pub degree : s < m.states → (d : ℕ → ℕ) × Truth m g (never_holds p) d × (v.degree ≡ d s)
   pub run : s < m.states → 1 ≤ l → l ≤ g.levels → 2 * m.states ≤ length ys → Broken m g p s l ys xs v.run
+  -- there is a run only where the level is on the scale and the walk buffer has room for one
+  pub asked : (c : ℕ × ℕ) → v.run ≡ Some c → (1 ≤ l) × (l ≤ g.levels) × (2 * m.states ≤ length ys)
+  -- where there is none, nothing is written
+  pub still : v.run ≡ None → xs ≡ ys
 
 -- what is refused, in order: a model that cannot be walked; buffers too short for the first row; a proposition that is not
 -- there; buffers too short for three rows; a state that is not there

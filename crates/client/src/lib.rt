@@ -2,7 +2,7 @@
 //! is what they refuse.
 #![tactic(auto)]
 
-ghost use Rattle.std.specs.Prelude.{◌≡◌, length, IfOk};
+ghost use Rattle.std.specs.Prelude.{◌≡◌, length, IfOk, IfErr};
 ghost use Rattle.sheet.specs.Over.{outcome};
 ghost use Rattle.client.specs.Promise.{Judged, refused};
 
@@ -36,6 +36,7 @@ pub fn never_holds<M: Model, S: Scale>(
     out: &mut [u16],
 ) -> Result<Verdict, SheetFault>
     ensures judged { IfOk result (λ v. Judged (M.meaning model.now) (S.grades scale.now) p state level out.old out.new v) }
+    ensures still { IfErr result (λ _. out.new ≡ out.old) }
     ensures refuses { outcome result ≡ refused (M.meaning model.now) (length rows.old) (length bytes.old) p state }
 {
     let mut sheet = Sheet::open(model, scale)?;

@@ -10,12 +10,12 @@ use sheet::row::Row;
 use std::io;
 
 /// A model whose states can be told in words.
-trait Told {
+trait InWords {
     /// Prints who holds each buffer in a state.
     fn tell(&self, rt: &HostRuntime, s: u16) -> io::Result<()>;
 }
 
-impl Told for Pool {
+impl InWords for Pool {
     fn tell(&self, rt: &HostRuntime, s: u16) -> io::Result<()> {
         let mut digits = s;
         for _ in 0..self.buffers {
@@ -32,7 +32,7 @@ impl Told for Pool {
     }
 }
 
-impl<A: Told, B: Model + Told> Told for Pair<A, B> {
+impl<A: InWords, B: Model + InWords> InWords for Pair<A, B> {
     fn tell(&self, rt: &HostRuntime, s: u16) -> io::Result<()> {
         let n = self.second.states();
         self.first.tell(rt, s.checked_div(n).unwrap_or(0))?;
@@ -42,7 +42,7 @@ impl<A: Told, B: Model + Told> Told for Pair<A, B> {
 }
 
 /// Asks for a run from state 0 that breaks a level of a row, and prints it, or the refusal.
-fn run<M: Model + Told, S: Scale>(desk: &Desk<M, S>, row: u8, level: u8) -> io::Result<()> {
+fn run<M: Model + InWords, S: Scale>(desk: &Desk<M, S>, row: u8, level: u8) -> io::Result<()> {
     let rt = desk.rt;
     let mut out = [0u16; 8192];
     match desk.walk(row, 0, level, &mut out) {
@@ -71,7 +71,7 @@ fn run<M: Model + Told, S: Scale>(desk: &Desk<M, S>, row: u8, level: u8) -> io::
 }
 
 /// Is a frame ever torn, and on which runs? At level 4 and at level 1.
-fn torn<M: Model + Told>(rt: &HostRuntime, model: &M) -> io::Result<()> {
+fn torn<M: Model + InWords>(rt: &HostRuntime, model: &M) -> io::Result<()> {
     let rows = &mut [Row::default(); 3];
     opened(rt, model, &FiveValued, rows, &mut [0; 12288], |desk| {
         desk.enter_all(&[

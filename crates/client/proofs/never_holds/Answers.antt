@@ -1,7 +1,8 @@
-use Rattle.std.proofs.Common.{sym, subst}
+use Rattle.std.proofs.Common.{sym, ◌∙◌, subst}
 use Rattle.sheet.specs.States.{seen}
 use Rattle.sheet.proofs.Exits.{refused}
 use Rattle.client.specs.Promise.{Broken}
+use Rattle.client.proofs.Asking.{asked_lawfully, nothing_written}
 use Rattle.client.proofs.Entering.{stands, judged_degree, judged_walk}
 use Rattle.client.proofs.Refusing.{new_refuses, first_refuses, second_refuses, third_refuses, degree_refuses, none_refuses}
 use Rattle.client.proofs.never_holds.Goals as goal
@@ -25,6 +26,8 @@ returns-clause-judged g c =
       degree = judged_degree m law grades orderly c.args.p c.in_ok-never.never c.args.state c.args.level last row c.in_ok-degree.degree (c.in_ok-degree.ensures.law c.enter-3.new.rows);
       run = λ inside some most room. subst (Broken m grades c.args.p c.args.state c.args.level c.args.out.now c.walk.new.out) (sym c.ok-run.ensures.value)
           (judged_walk m law grades orderly c.args.p c.in_ok-never.never c.args.state c.args.level last row c.args.out.now c.walk.new.out inside some most room c.walk.result c.walk.ensures.law);
+      asked = λ counts e. asked_lawfully m law grades orderly c.args.p c.in_ok-never.never c.args.state c.args.level last row c.args.out.now c.walk.new.out c.walk.result c.walk.ensures.exact counts (sym c.ok-run.ensures.value ∙ e);
+      still = λ e. nothing_written m law grades orderly c.args.p c.in_ok-never.never c.args.state c.args.level last row c.args.out.now c.walk.new.out c.walk.result c.walk.ensures.exact (sym c.ok-run.ensures.value ∙ e);
     }
 
 pub returns-in_err-sheet-clause-refuses : goal.returns-in_err-sheet-clause-refuses

@@ -4,7 +4,7 @@ ghost use Rattle.text.specs.Scripts.{script_at, script_read, answer_of};
 
 use crate::fault::ReadFault;
 use crate::reader::Reader;
-use crate::script::Script;
+use crate::script::{Body, Script};
 
 /// Reads a text.
 pub fn read(text: &[u8]) -> Result<Script, ReadFault>
@@ -13,7 +13,8 @@ pub fn read(text: &[u8]) -> Result<Script, ReadFault>
     let mut reader = Reader { rest: text };
     let levels = reader.scale()?;
     let source = reader.source()?;
-    let body = reader.lines(source)?;
+    let mut body = Body::default();
+    reader.lines(source, &mut body)?;
     Ok(Script {
         levels,
         source,

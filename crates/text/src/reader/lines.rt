@@ -189,14 +189,15 @@ impl Reader<'_> {
         }
     }
 
+    // Into the caller's body: one that is made here and answered is copied once more.
     /// Takes the lines after the model's, to the end of the text.
-    pub(crate) fn lines(&mut self, source: Source) -> Result<Body, ReadFault>
-        ensures { beside_by said_in result self.new.rest.now ≡ lines_at source 2057 nothing self.old.rest.now }
+    pub(crate) fn lines(&mut self, source: Source, body: &mut Body) -> Result<(), ReadFault>
+        requires { said_in body.old ≡ nothing }
+        ensures { with result (said_in body.new) self.new.rest.now ≡ lines_at source 2057 nothing self.old.rest.now }
     {
-        let mut body = Body::default();
         while !self.rest.is_empty() {
-            self.line(source, &mut body)?;
+            self.line(source, body)?;
         }
-        Ok(body)
+        Ok(())
     }
 }

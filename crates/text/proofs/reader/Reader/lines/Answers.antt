@@ -6,7 +6,7 @@ use Rattle.text.proofs.Turns.{lines_more}
 use Rattle.text.proofs.reader.Reader.lines.Goals as goal
 
 pub loop-source-init : goal.loop-source-init
-loop-source-init c = (2057, omega arith, cc)
+loop-source-init c = (2057, search rules, ap (λ h. lines_at c.args.source 2057 h c.args.self.now.rest.now) c.requires)
 
 pub loop-source-preserved : goal.loop-source-preserved
 loop-source-preserved c =

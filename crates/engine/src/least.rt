@@ -49,16 +49,32 @@ pub(crate) fn fill<M: Model, F: Fn(u16, &mut Rounds) -> bool>(
 }
 
 // No struct of `s1` and `s2`: F is taken at other sets in each call, so it would be made and taken apart for each.
-/// The least fixed point of F of S1 and S2, by the round in which each state joins it.
-pub fn least<M: Model>(model: &M, some: bool, s1: &StateSet, s2: &StateSet) -> Rounds
-    ensures { Joins (M.meaning model.now).states (step_f (M.meaning model.now) some s1.now s2.now) result (suc (M.meaning model.now).states) }
+// The rounds are lent, here and in `greatest_into`, `returning_into` and `remaining_into`: a function that hands on the
+// rounds that another answers clears 8 KiB for them and copies them once more.
+/// As `least`, into rounds in which no state has joined yet.
+pub(crate) fn least_into<M: Model>(
+    model: &M,
+    some: bool,
+    s1: &StateSet,
+    s2: &StateSet,
+    joined: &mut Rounds,
+)
+    requires joined { joined.old.at ≡ replicate 4096 65535 }
+    ensures { Joins (M.meaning model.now).states (step_f (M.meaning model.now) some s1.now s2.now) joined.new (suc (M.meaning model.now).states) }
 {
-    // As `remaining`: what the two share is `fill`, and each gives it a round of its own.
-    let mut joined = Rounds::of(NEVER);
-    fill(model, &mut joined, |k, joined| {
+    // As `remaining_into`: what the two share is `fill`, and each gives it a round of its own.
+    fill(model, joined, |k, joined| {
         join(model, k, joined, |s, joined| {
             in_f(model, some, s, s1, s2, joined, k)
         })
     });
+}
+
+/// The least fixed point of F of S1 and S2, by the round in which each state joins it.
+pub fn least<M: Model>(model: &M, some: bool, s1: &StateSet, s2: &StateSet) -> Rounds
+    ensures { Joins (M.meaning model.now).states (step_f (M.meaning model.now) some s1.now s2.now) result (suc (M.meaning model.now).states) }
+{
+    let mut joined = Rounds::of(NEVER);
+    least_into(model, some, s1, s2, &mut joined);
     joined
 }

@@ -2,8 +2,8 @@
 ghost use Rattle.std.specs.Prelude.{suc};
 ghost use Rattle.engine.specs.Rounded.{Joins, Recurring, settled};
 
-use crate::passing::{remaining, returning};
-use crate::rounds::Rounds;
+use crate::passing::{remaining_into, returning_into};
+use crate::rounds::{NEVER, Rounds};
 use crate::sets::StateSet;
 use model::interface::Model;
 
@@ -13,7 +13,9 @@ pub fn recurring<M: Model>(model: &M, some: bool, right: &StateSet, left: &State
     ensures { Recurring (M.meaning model.now) some right.now left.now result }
 {
     let all = StateSet::of(true);
-    returning(model, some, right, &all, left)
+    let mut joined = Rounds::of(0);
+    returning_into(model, some, right, &all, left, &mut joined);
+    joined
 }
 
 /// The states from which some walk, or every walk, is good from some position on, by the outer round in which each
@@ -22,5 +24,7 @@ pub fn settling<M: Model>(model: &M, some: bool, right: &StateSet, left: &StateS
     ensures { Joins (M.meaning model.now).states (settled (M.meaning model.now) some right.now left.now) result (suc (M.meaning model.now).states) }
 {
     let all = StateSet::of(true);
-    remaining(model, some, right, &all, left)
+    let mut joined = Rounds::of(NEVER);
+    remaining_into(model, some, right, &all, left, &mut joined);
+    joined
 }

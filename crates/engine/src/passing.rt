@@ -1,10 +1,10 @@
 //! Nested fixed points of H, where some states alone may be passed.
-ghost use Rattle.std.specs.Prelude.{suc};
+ghost use Rattle.std.specs.Prelude.{◌≡◌, suc, replicate};
 ghost use Rattle.engine.specs.Marks.{before};
 ghost use Rattle.engine.specs.Passing.{Returning, remained};
 ghost use Rattle.engine.specs.Rounded.{Applied, Joins, Round, step_f};
 
-use crate::greatest::greatest;
+use crate::greatest::greatest_into;
 use crate::least::{fill, join, least};
 use crate::rounds::{NEVER, Rounds};
 use crate::sets::StateSet;
@@ -23,13 +23,32 @@ fn apply<M: Model>(
     ensures { Applied (M.meaning model.now).states (step_f (M.meaning model.now) some s1.now s2.now (before joined.now (suc (M.meaning model.now).states))) base.old base.new result }
 {
     let n = model.states();
-    let next = StateSet::such_that(model, |s| in_f(model, some, s, s1, s2, joined, n + 1));
-    let changed = (0..n).any(|s| next.has(s) != base.has(s));
-    *base = next;
-    changed
+    base.renew(model, |s| in_f(model, some, s, s1, s2, joined, n + 1))
 }
 
 // Not a `Task`, which owns its sets: `recurring` and `settling` would copy theirs into it.
+/// As `returning`, into rounds in which all states have joined.
+pub(crate) fn returning_into<M: Model>(
+    model: &M,
+    some: bool,
+    right: &StateSet,
+    pass: &StateSet,
+    left: &StateSet,
+    joined: &mut Rounds,
+)
+    requires joined { joined.old.at ≡ replicate 4096 0 }
+    ensures { Returning (M.meaning model.now) some right.now pass.now left.now joined.new }
+{
+    let mut base = StateSet::of(true);
+    // Not by `fill`: a round makes `base`, then `joined`, and may end between the two.
+    for _ in 0..model.states() + 2 {
+        if !apply(model, some, right, left, joined, &mut base) {
+            return;
+        }
+        *joined = least(model, some, &base, pass);
+    }
+}
+
 /// The states from which some walk, or every walk, keeps to `pass` or `left` until `right` is seen, and has `left`, or
 /// has seen `right`, again and again, by the last inner rounds.
 pub fn returning<M: Model>(
@@ -41,15 +60,8 @@ pub fn returning<M: Model>(
 ) -> Rounds
     ensures { Returning (M.meaning model.now) some right.now pass.now left.now result }
 {
-    let mut base = StateSet::of(true);
     let mut joined = Rounds::of(0);
-    // Not by `fill`: a round makes `base`, then `joined`, and may end between the two.
-    for _ in 0..model.states() + 2 {
-        if !apply(model, some, right, left, &joined, &mut base) {
-            return joined;
-        }
-        joined = least(model, some, &base, pass);
-    }
+    returning_into(model, some, right, pass, left, &mut joined);
     joined
 }
 
@@ -65,11 +77,31 @@ fn settle<M: Model>(
 ) -> bool
     ensures { Round (M.meaning model.now).states (remained (M.meaning model.now) some right.now pass.now left.now) k joined.old joined.new result }
 {
-    // Not a closure in `remaining`: tried, the proof of these calls did not close there.
+    // Not a closure in `remaining_into`: tried, the proof of these calls did not close there.
     let base = StateSet::such_that(model, |s| in_f(model, some, s, right, pass, joined, k));
-    let gone = greatest(model, some, &base, left);
+    let mut gone = Rounds::of(NEVER);
+    greatest_into(model, some, &base, left, &mut gone);
     let n = model.states();
     join(model, k, joined, |s, _| !gone.joined(s, n))
+}
+
+/// As `remaining`, into rounds in which no state has joined yet.
+pub(crate) fn remaining_into<M: Model>(
+    model: &M,
+    some: bool,
+    right: &StateSet,
+    pass: &StateSet,
+    left: &StateSet,
+    joined: &mut Rounds,
+)
+    requires joined { joined.old.at ≡ replicate 4096 65535 }
+    ensures { Joins (M.meaning model.now).states (remained (M.meaning model.now) some right.now pass.now left.now) joined.new (suc (M.meaning model.now).states) }
+{
+    fill(
+        model,
+        joined,
+        |k, joined| settle(model, some, right, pass, left, k, joined),
+    );
 }
 
 /// The states from which some walk, or every walk, keeps so, and has `left`, or has seen `right`, from some position
@@ -84,10 +116,6 @@ pub fn remaining<M: Model>(
     ensures { Joins (M.meaning model.now).states (remained (M.meaning model.now) some right.now pass.now left.now) result (suc (M.meaning model.now).states) }
 {
     let mut joined = Rounds::of(NEVER);
-    fill(
-        model,
-        &mut joined,
-        |k, joined| settle(model, some, right, pass, left, k, joined),
-    );
+    remaining_into(model, some, right, pass, left, &mut joined);
     joined
 }

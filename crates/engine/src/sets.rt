@@ -1,5 +1,5 @@
 //! Sets of states.
-ghost use Rattle.std.specs.Prelude.{◌≡◌, ℕ, ◌<◌, replicate, slice_set};
+ghost use Rattle.std.specs.Prelude.{◌≡◌, ℕ, ◌<◌, false, replicate, slice_set};
 ghost use Rattle.engine.specs.Marks.{members};
 ghost use Rattle.engine.specs.Rounded.{Holds};
 ghost use Rattle.logic.specs.Sets.{complement};
@@ -25,6 +25,24 @@ impl StateSet {
         ensures { (s : ℕ) → s < (M.meaning model.now).states → F.post rule s (members result s) }
     {
         StateSet::by(model.states(), false, rule)
+    }
+
+    // In place, and no set made by `such_that`: a second set would have to be cleared, compared and copied.
+    /// Marks the states of the model anew, by what the rule asks. Did a mark change?
+    pub(crate) fn renew<M: Model, F: Fn(u16) -> bool>(&mut self, model: &M, rule: F) -> bool
+        requires { (s : ℕ) → s < (M.meaning model.now).states → s < 4096 → F.pre rule s }
+        ensures ruled { (s : ℕ) → s < (M.meaning model.now).states → F.post rule s (members self.new s) }
+        ensures still { result ≡ false → Holds (M.meaning model.now).states (members self.old) self.new }
+    {
+        let mut changed = false;
+        for s in 0..model.states() {
+            let member = rule(s);
+            if self.at[usize::from(s)] != member {
+                self.at[usize::from(s)] = member;
+                changed = true;
+            }
+        }
+        changed
     }
 
     /// Is the state in the set?

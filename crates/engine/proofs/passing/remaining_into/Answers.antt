@@ -1,7 +1,7 @@
 use Rattle.std.proofs.Common.{of_calls}
 use Rattle.engine.specs.Passing.{remained}
 use Rattle.engine.proofs.Returns.{remained_monotone}
-use Rattle.engine.proofs.passing.remaining.Goals as goal
+use Rattle.engine.proofs.passing.remaining_into.Goals as goal
 
 pub returns : goal.returns
 returns g c =

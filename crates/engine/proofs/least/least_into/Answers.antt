@@ -1,7 +1,7 @@
 use Rattle.std.proofs.Common.{of_calls}
 use Rattle.logic.proofs.Rules.{F_monotone}
 use Rattle.engine.specs.Rounded.{step_f}
-use Rattle.engine.proofs.least.least.Goals as goal
+use Rattle.engine.proofs.least.least_into.Goals as goal
 
 pub returns : goal.returns
 returns g c =

@@ -1,10 +1,10 @@
 -- What holds of a row over a sheet and its bytes holds of the row, the sheet and the bytes that it stands for.
-use Rattle.std.proofs.Common.{◌≡◌, ℕ, ◌<◌, ◌==◌, cond, List, Some, None, Option, is_some, sym, refl, subst, ap, ◌∙◌}
+use Rattle.std.proofs.Common.{◌≡◌, ◌≢◌, ℕ, ◌<◌, ◌==◌, cond, List, Some, None, Option, is_some, sym, refl, subst, ap, ◌∙◌}
 use Rattle.std.specs.Option.{unwrap_or, ForSome}
 use Rattle.std.proofs.lemmas.Bool.{both_ways, eq-eqb}
 use Rattle.logic.specs.Formulas.{unused}
 use Rattle.sheet.specs.Calls.{given, second_of}
-use Rattle.sheet.specs.Kinds.{number_of, kind_of, meant}
+use Rattle.sheet.specs.Kinds.{number_of, operands_of, kind_of, meant}
 use Rattle.sheet.specs.declared.kinds.Kind.{Kind}
 use Rattle.sheet.specs.Checks.{Earlier}
 use Rattle.sheet.specs.Over.{state_of, row_of, Lends, Stands}
@@ -44,6 +44,12 @@ earlier x s bs r h =
     let low = number_low x.kind in
     let own : Earlier x.lent.sheet.now (row_of x) = record { some_kind = low.0; last_kind = low.1; first = x.first; second = second_below x.b _ _ x.binary x.second } in
     subst (λ s. Earlier s r) h.lends.sheet (subst (λ r. Earlier x.lent.sheet.now r) h.row own)
+
+-- a row's operands are rows of the sheet
+pub operands_there : (x : Known) (s : Sheet) (bs : List ℕ) (r : Row) → Stands x s bs r →
+    ((number_of x.kind ≢ 1) → x.a < s.rows) × (is_some x.b ≡ (operands_of (number_of x.kind) == 2)) × ForSome x.b (λ b. b < s.rows)
+operands_there x s bs r h =
+    subst (λ (s : Sheet). ((number_of x.kind ≢ 1) → x.a < s.rows) × (is_some x.b ≡ (operands_of (number_of x.kind) == 2)) × ForSome x.b (λ b. b < s.rows)) h.lends.sheet (x.first, x.binary, x.second)
 
 -- the kind of the logic that a row is, once its kind is known
 pub kind_is : (x : Known) (k : Kind) → x.kind ≡ k → kind_of (number_of x.kind) x.a ≡ meant k x.a

@@ -1,5 +1,5 @@
 -- A sheet with its degree bytes, and a row over them, as the code holds them.
-use Rattle.std.specs.Prelude.{◌≡◌, ℕ, Bool, cond, not, ◌&&◌, ◌||◌, List, Ok, Err, Result, ◌==◌, nat_le}
+use Rattle.std.specs.Prelude.{◌≡◌, ℕ, Bool, cond, not, ◌&&◌, ◌||◌, List, Ok, Err, Result, Option, ◌==◌, nat_le}
 use Rattle.std.specs.Option.{unwrap_or}
 use Rattle.model.specs.Faults.{Refusal}
 use Rattle.model.specs.Meaning.{Meaning}
@@ -8,6 +8,7 @@ use Rattle.sheet.specs.Faults.{told}
 use Rattle.sheet.specs.Kinds.{operands_of, number_of}
 use Rattle.sheet.specs.States.{State, seen}
 use Rattle.sheet.specs.declared.fault.SheetFault.{SheetFault}
+use Rattle.sheet.specs.declared.kinds.Kind.{Kind}
 use Rattle.sheet.specs.declared.row.Row.{Row}
 use Rattle.sheet.specs.declared.sheet.Sheet.{Sheet}
 use Rattle.sheet.specs.declared.sheet.lent.Lent.{Lent}
@@ -17,9 +18,12 @@ use Rattle.sheet.specs.declared.sheet.lent.Known.{Known}
 abbrev pub state_of : Lent → List Row → State
 state_of x rs = seen x.sheet.now rs x.bytes.now
 
--- the row as its buffer holds it; a second operand that it does not have is 0
+-- a row as its buffer holds it; a second operand that it does not have is 0
+abbrev pub row_over : Kind → ℕ → Option ℕ → Row
+row_over k a b = record { kind = number_of k; a = a; b = unwrap_or b 0 }
+
 abbrev pub row_of : Known → Row
-row_of x = record { kind = number_of x.kind; a = x.a; b = unwrap_or x.b 0 }
+row_of x = row_over x.kind x.a x.b
 
 -- the model and the scale are of the sheet's size
 pub record Fits (m : Meaning) (g : Grades) (x : Sheet) : Type 0 where

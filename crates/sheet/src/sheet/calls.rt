@@ -12,7 +12,6 @@ use super::Sheet;
 use crate::fault::SheetFault;
 use crate::row::Row;
 use crate::sheet::lent::Lent;
-use crate::sheet::working::write;
 use model::check::walkable;
 use model::interface::Model;
 use scale::scales::Scale;
@@ -45,11 +44,10 @@ impl Sheet {
         ensures sets { (n : ℕ) → result ≡ Ok n → RowReaches (M.meaning model.now) (S.grades scale.now) (seen self.old rows.old bytes.old) row (seen self.new rows.new bytes.new) n }
         ensures leaves { seen self.new rows.new bytes.new ≡ enter_leaves (M.meaning model.now) (S.grades scale.now) (seen self.old rows.old bytes.old) row }
     {
-        let degrees = self
-            .check(model, scale, rows, bytes, row)?
-            .work_out(model, scale);
+        let known = self.check(model, scale, rows, bytes, row)?;
+        let (kind, a, b) = (known.kind, known.a, known.b);
+        self.append(model, scale, bytes, kind, a, b);
         let count = self.rows;
-        write(bytes, self.used(), self.size.states, &degrees);
         rows[usize::from(count)] = row;
         self.rows = count + 1;
         Ok(count)

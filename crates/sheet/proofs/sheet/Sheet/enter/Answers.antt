@@ -5,9 +5,14 @@ use Rattle.sheet.specs.Kinds.{kind_of}
 use Rattle.sheet.specs.Calls.{with_row, degrees_of, reaches, first_of, second_of, written}
 use Rattle.sheet.specs.States.{seen}
 use Rattle.sheet.proofs.Exits.{goes, accepted, ok_same}
-use Rattle.sheet.proofs.Over.{moved}
-use Rattle.sheet.proofs.Writes.{same-written, read_back}
+use Rattle.sheet.proofs.Over.{operands_there}
+use Rattle.sheet.proofs.Writes.{read_back}
 use Rattle.sheet.proofs.sheet.Sheet.enter.Goals as goal
+
+pub append-requires : goal.append-requires
+append-requires g c =
+    let known = c.in_ok-known.ensures.known in
+    record { sizes = known.0.fits; room = known.0.room.bytes; operands = operands_there c.in_ok-known.known c.args.self.now _ _ known.1 }
 
 pub returns : goal.returns
 returns g c =
@@ -15,21 +20,20 @@ returns g c =
     let d = g.S.Scale.grades c.args.scale.now in
     let x = c.args.self.now in
     let s = seen x c.args.rows.now c.args.bytes.now in
-    let ok = c.in_ok-check.ensures.exact in
-    let ready = c.in_ok-check.ensures.known.0 in
-    let worked = moved (λ t r. (k : ℕ) → k < t.states → get_or c.work_out-degrees.result.at k 0 ≡ degrees_of m d t r k) _ _ _ _ c.args.rows.now c.in_ok-check.ensures.known.1 (c.work_out-degrees.ensures c.args.rows.now) in
-    let bytes : c.write.new.bytes ≡ written c.args.bytes.now (x.rows * x.size.states) x.size.states (degrees_of m d s c.args.row) =
-    (rw c.used.ensures at c.write.ensures) ∙ same-written _ _ x.size.states _ _ worked in
+    let ok = c.in_ok-known.ensures.exact in
+    let ready = c.in_ok-known.ensures.known.0 in
+    let bytes : c.append.new.bytes ≡ written c.args.bytes.now (x.rows * x.size.states) x.size.states (degrees_of m d s c.args.row) =
+    c.append.ensures c.args.rows.now ∙ ap (λ r. written c.args.bytes.now (x.rows * x.size.states) x.size.states (degrees_of m d s r)) c.in_ok-known.ensures.known.1.row in
     let row = c.args.row in
     let place : x.rows * x.size.states + x.size.states ≤ length c.args.bytes.now = omega (arith, ready.room.bytes, suc-mul x.rows x.size.states) in
-    let reads : (k : ℕ) → k < x.size.states → get_or c.write.new.bytes (x.rows * x.size.states + k) 0 ≡ degrees_of m d s row k =
+    let reads : (k : ℕ) → k < x.size.states → get_or c.append.new.bytes (x.rows * x.size.states + k) 0 ≡ degrees_of m d s row k =
     λ k h. ap (λ (bs : List ℕ). get_or bs (x.rows * x.size.states + k) 0) bytes ∙ read_back c.args.bytes.now (x.rows * x.size.states) x.size.states (degrees_of m d s row) k h place in
     record {
       answers = goes ok refl;
       sets = λ n q l k some most here.
           let is : x.rows ≡ n = ok_same x.rows n q in
-          let at : get_or c.write.new.bytes (n * x.size.states + k) 0 ≡ degrees_of m d s row k =
-          subst (λ n. get_or c.write.new.bytes (n * x.size.states + k) 0 ≡ degrees_of m d s row k) is (reads k (subst (λ N. k < N) ready.fits.states here)) in
+          let at : get_or c.append.new.bytes (n * x.size.states + k) 0 ≡ degrees_of m d s row k =
+          subst (λ n. get_or c.append.new.bytes (n * x.size.states + k) 0 ≡ degrees_of m d s row k) is (reads k (subst (λ N. k < N) ready.fits.states here)) in
           subst (λ b. (l ≤ b) ↔ (k ∈ reaches m d s row l)) (sym at)
           (reaches_where_sat m (g.M.Model.lawful c.args.model.now) ready.total d (g.S.Scale.lawful c.args.scale.now) (kind_of row.kind row.a) (first_of s row) (second_of s row) ready.first ready.second l k some most here);
       leaves = rw c.from.ensures (accepted _ _ s (with_row m d s row) _ ok

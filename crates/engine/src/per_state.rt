@@ -30,8 +30,8 @@ impl<T: Copy> PerState<T> {
         ensures others { (s : ℕ) → n ≤ s → slice_index_or result.at s rest ≡ rest }
     {
         let mut all = PerState::everywhere(rest);
-        // Not by `array::from_fn`, which visits all 4,096 places: a small model must not pay for them. By index, since
-        // `enumerate` counts in `usize` and `s` would be narrowed.
+        // Not by `array::from_fn`, which asks the rule for all 4,096 places: the model has states for the first alone. By
+        // index, since `enumerate` counts in `usize` and `s` would be narrowed.
         for s in 0..n.min(4096) {
             all.at[usize::from(s)] = rule(s);
         }

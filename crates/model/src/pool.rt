@@ -1,9 +1,8 @@
 //! A pool of frame buffers that two capture threads share.
-ghost use Rattle.std.specs.Prelude.{◌≡◌, ◌+◌, ◌-◌, ◌*◌, ◌^◌, ◌<◌, ◌≤◌, ◌&&◌, ◌||◌, if◌then◌else◌, ◌==◌, nat_lt};
+ghost use Rattle.std.specs.Prelude.{◌≡◌, ◌+◌, ◌-◌, ◌*◌, ◌^◌, ◌<◌, ◌≤◌, ◌&&◌, if◌then◌else◌, ◌==◌, nat_lt};
 ghost use Rattle.model.specs.Lawfulness.{pooled_lawful};
 ghost use Rattle.model.specs.Meaning.{Least};
 ghost use Rattle.model.specs.Pools.{digit, share, holder, leads, pooled};
-ghost use Rattle.model.specs.declared.pool.Thread.TheVariants.{A, B};
 
 use crate::interface::{Model as FiniteModel, Size};
 use crate::lesser::lesser_of;
